@@ -1,0 +1,1 @@
+-- An ELF file as a list of bytes, and the plan by which it is loaded (System V gABI, ELF header and program header).
