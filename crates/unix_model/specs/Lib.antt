@@ -1,1 +1,16 @@
+pub mod Tables
+pub mod Numbers
+pub mod Memory
+pub mod Instructions
+pub mod Execution
+pub mod Calls
+pub mod Process
+pub mod Files
+pub mod State
+pub mod Room
+pub mod Enter
+pub mod Effect
+pub mod Turn
+pub mod Machine
+pub mod Schedule
 pub mod Elf
