@@ -14,3 +14,7 @@ pub mod Turn
 pub mod Machine
 pub mod Schedule
 pub mod Elf
+pub mod Loading
+pub mod Boot
+pub mod Words
+pub mod Notes

@@ -10,6 +10,6 @@ mod instructions;
 mod laws;
 
 pub use calls::{Call, Errno, Turned, WaitWord};
-pub use elf::{ElfFault, Load};
+pub use elf::{ElfFault, FileHeader, Load, MOST_LOADS, ProgramHeader};
 pub use instructions::{Access, Cause, ImmOp, Instr, Outcome, Regs};
 pub use laws::splitting_law;
