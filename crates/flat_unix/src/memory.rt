@@ -2,6 +2,7 @@
 
 ghost use Rattle.std.specs.Prelude.{◌≡◌, ℕ, ◌<◌, ◌≤◌, ◌+◌, ◌%◌, ◌^◌, IfOk, option_map};
 ghost use Rattle.unix_model.specs.Memory.{byte_at, bytes_at, word_at};
+ghost use Rattle.unix_model.specs.Tables.{nothing};
 ghost use Rattle.flat_unix.specs.MemoryView.{memory_of};
 
 use std::alloc::{AllocError, Global};
@@ -16,6 +17,16 @@ pub struct Memory {
 }
 
 impl Memory {
+    /// Memory with nothing mapped.
+    #[tactic(auto, unfolding(crate::specs::MemoryView::memory_of, unix_model::specs::Tables::nothing))]
+    pub fn new(alloc: Global) -> Memory
+        ensures { memory_of result ≡ nothing }
+    {
+        Memory {
+            pages: BTreeMap::new(alloc),
+        }
+    }
+
     /// The byte at an address, or None where it isn't mapped.
     #[tactic(auto, unfolding(unix_model::specs::Memory::byte_at, unix_model::specs::Tables::at, crate::specs::MemoryView::memory_of))]
     pub fn byte(&self, address: u64) -> Option<u8>

@@ -1,0 +1,9 @@
+use Rattle.std.proofs.Common.{◌≡◌}
+use Rattle.std.specs.Prelude.{is_some}
+use Rattle.unix_model.specs.Process.{descriptor}
+use Rattle.unix_model.specs.Tables.{least_below}
+use Rattle.flat_unix.specs.ProcessView.{process_of}
+use Rattle.flat_unix.proofs.process.Process.lowest_open.Given as goal
+
+abbrev pub invariant-loop-number : goal.invariant-loop-number
+invariant-loop-number l = l.lowest ≡ least_below (λ number. is_some (descriptor (process_of l.self) number)) l.number
