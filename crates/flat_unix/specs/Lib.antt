@@ -1,3 +1,4 @@
 pub mod Fields
 pub mod MemoryView
 pub mod ProcessView
+pub mod SlotsView

@@ -4,6 +4,8 @@ ghost use Rattle.std.specs.Prelude.{◌≡◌, ◌<◌, []};
 ghost use Rattle.unix_model.specs.Process as model;
 ghost use Rattle.unix_model.specs.Enter.{argument};
 ghost use Rattle.unix_model.specs.Turn.{ran, returned, lowest_open, signal_of, phase_after as phase_after_outcome};
+ghost use Rattle.std.specs.List.{list_any};
+ghost use Rattle.unix_model.specs.State.{adopted, names_description, phase_word};
 ghost use Rattle.flat_unix.specs.ProcessView.{process_of, phase_of};
 
 use std::alloc::Global;
@@ -152,5 +154,44 @@ impl Process {
         self.descriptors = [None; 32];
         self.phase = Phase::Zombie(word);
         self
+    }
+
+    /// Whether it has a descriptor of this description.
+    pub fn has_descriptor(&self, description: u16) -> bool
+        ensures { result ≡ list_any (names_description description) (process_of self.now).descriptors }
+    {
+        self.descriptors
+            .iter()
+            .any(|number| is_description(*number, description))
+    }
+
+    /// The process, a child of process 1 where it was a child of the one that ended.
+    pub fn adopted(mut self, ended: u32) -> Process
+        ensures { process_of result ≡ adopted ended (process_of self) }
+    {
+        if self.parent == ended {
+            self.parent = 1;
+        }
+        self
+    }
+
+    /// The wait word, where it has ended.
+    pub fn word(&self) -> Option<u32>
+        ensures { result ≡ phase_word (process_of self.now).phase }
+    {
+        match self.phase {
+            Phase::Zombie(word) => Some(word),
+            _ => None,
+        }
+    }
+}
+
+/// Whether a descriptor names this description.
+fn is_description(number: Option<u16>, description: u16) -> bool
+    ensures { result ≡ names_description description number }
+{
+    match number {
+        Some(number) => number == description,
+        None => false,
     }
 }
