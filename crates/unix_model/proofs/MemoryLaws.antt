@@ -1,7 +1,7 @@
 -- The bytes of a range, one more at a time.
-use Rattle.std.proofs.Common.{◌≡◌, ◌≢◌, ℕ, zero, suc, ◌+◌, ◌<◌, ◌≤◌, ◌/◌, ◌%◌, Option, Some, None, List, [], ◌∷◌, ◌++◌, arith, refl, sym, ap, ◌∙◌, ◌⊎◌, inl, inr, add-one, add-zero}
+use Rattle.std.proofs.Common.{◌≡◌, ℕ, zero, suc, ◌+◌, ◌<◌, ◌≤◌, ◌/◌, ◌%◌, Option, Some, None, List, [], ◌∷◌, arith, refl, sym, ap, ◌∙◌, inl, inr, add-one, add-zero}
 use Rattle.std.proofs.lemmas.Bool.Decides.{eqb_tells}
-use Rattle.std.specs.Prelude.{true, false, ◌==◌, option_map, slice_index}
+use Rattle.std.specs.Prelude.{option_map, slice_index}
 use Rattle.unix_model.specs.Memory.{Memory, Page, byte_at, bytes_at, and_byte, word_at}
 use Rattle.unix_model.specs.Numbers.{word_of}
 use Rattle.unix_model.specs.Tables.{at}
@@ -49,10 +49,10 @@ byte_in_page memory address i inside =
 
 four : (found : Option Page) (place : ℕ)
     → option_map word_of (and_byte (and_byte (and_byte (and_byte (Some [])
-        (option_map (λ (page : Page). slice_index page.bytes (place + 0)) found))
-        (option_map (λ (page : Page). slice_index page.bytes (place + 1)) found))
-        (option_map (λ (page : Page). slice_index page.bytes (place + 2)) found))
-        (option_map (λ (page : Page). slice_index page.bytes (place + 3)) found))
+    (option_map (λ (page : Page). slice_index page.bytes (place + 0)) found))
+    (option_map (λ (page : Page). slice_index page.bytes (place + 1)) found))
+    (option_map (λ (page : Page). slice_index page.bytes (place + 2)) found))
+    (option_map (λ (page : Page). slice_index page.bytes (place + 3)) found))
     ≡ option_map (λ page. page_word page place) found
 four None place = refl
 four (Some page) place = rw add-zero refl
@@ -63,12 +63,12 @@ pub word_at-in_page : (memory : Memory) (address : ℕ) → address % 4096 ≤ 4
 unfolding word_at bytes_at
 word_at-in_page memory address inside =
     rw (byte_in_page memory address 0 (omega arith), byte_in_page memory address 1 (omega arith), byte_in_page memory address 2 (omega arith), byte_in_page memory address 3 (omega arith))
-        (four (at memory (address / 4096)) (address % 4096))
+    (four (at memory (address / 4096)) (address % 4096))
 
 -- a word byte by byte
 pub word_at-bytes : (memory : Memory) (address : ℕ)
     → word_at memory address
-        ≡ option_map word_of (and_byte (and_byte (and_byte (and_byte (Some []) (byte_at memory address)) (byte_at memory (address + 1))) (byte_at memory (address + 2))) (byte_at memory (address + 3)))
+    ≡ option_map word_of (and_byte (and_byte (and_byte (and_byte (Some []) (byte_at memory address)) (byte_at memory (address + 1))) (byte_at memory (address + 2))) (byte_at memory (address + 3)))
 unfolding word_at bytes_at
 word_at-bytes memory address = rw (add-zero address) refl
 

@@ -5,7 +5,7 @@ use Rattle.std.specs.Prelude.{ℕ, true, false, not, ◌||◌, List, [], ◌∷�
 use Rattle.std.specs.Option.{option_and_then}
 use Rattle.unix_model.specs.declared.elf.ElfFault.{ElfFault}
 use Rattle.unix_model.specs.Elf.{LoadPlan, plan_of}
-use Rattle.unix_model.specs.Files.{Inode, File, Directory, Pipe, Console, Entry, Description}
+use Rattle.unix_model.specs.Files.{Files, Inode, File, Directory, Pipe, Console, Entry, Description}
 use Rattle.unix_model.specs.Loading.{image, start_registers}
 use Rattle.unix_model.specs.Process.{Process, Run}
 use Rattle.unix_model.specs.Room.{has_room}
@@ -21,8 +21,7 @@ unfoldable pub empty_machine : ℕ → ℕ → Unix
 empty_machine pages quantum =
     record {
       processes = nothing;
-      inodes = first_inodes;
-      descriptions = nothing;
+      files = record { inodes = first_inodes; descriptions = nothing };
       next_pid = 1;
       pages = pages;
       quantum = quantum;
@@ -41,15 +40,13 @@ with_entry (Some (Pipe bytes)) entry = Some (Pipe bytes)
 with_entry (Some Console) entry = Some Console
 with_entry None entry = None
 
--- the inodes with a new file of this name in the root, at a free inode number
-unfoldable pub with_file_at : (ℕ → Option Inode) → List ℕ → List ℕ → ℕ → ℕ → Option Inode
-with_file_at inodes name bytes number =
-    with_at (with_at inodes number (Some (File bytes))) 1 (with_entry (at inodes 1) (record { name = name; inode = number }))
-
--- the state with a new file of this name in the root
-abbrev pub with_file : Unix → List ℕ → List ℕ → Option ℕ → Unix
-with_file unix name bytes None = unix
-with_file unix name bytes (Some number) = record unix { inodes = with_file_at unix.inodes name bytes number }
+-- the files with a new one of this name in the root, at a free inode number
+abbrev pub with_file : Files → List ℕ → List ℕ → Option ℕ → Files
+with_file files name bytes None = files
+with_file files name bytes (Some number) =
+    record files {
+      inodes = with_at (with_at files.inodes number (Some (File bytes))) 1 (with_entry (at files.inodes 1) (record { name = name; inode = number }));
+    }
 
 -- the inode of a place that has this name
 abbrev pub place_inode : List ℕ → Option Entry → Option ℕ
@@ -78,12 +75,16 @@ bytes_of (Some Console) = None
 bytes_of None = None
 
 -- the bytes of the file of this name in the root
-unfoldable pub file_named : (ℕ → Option Inode) → List ℕ → Option (List ℕ)
-file_named inodes name = option_and_then (λ number. bytes_of (at inodes number)) (inode_named (places_of (at inodes 1)) name)
+unfoldable pub file_named : Files → List ℕ → Option (List ℕ)
+file_named files name = option_and_then (λ number. bytes_of (at files.inodes number)) (inode_named (places_of (at files.inodes 1)) name)
 
 -- the console, open for reading and writing
 abbrev pub console_description : Description
 console_description = record { inode = 0; readable = true; writable = true; append = false; offset = 0 }
+
+-- the files with an open description at a number
+abbrev pub with_description : Files → ℕ → Description → Files
+with_description files number description = record files { descriptions = with_at files.descriptions number (Some description) }
 
 -- the first program's name, and its argument
 abbrev pub init_name : List ℕ
@@ -109,7 +110,7 @@ first_process file plan =
 -- the machine with process 1 in slot 0
 abbrev pub started : Unix → List ℕ → LoadPlan → Unix
 started unix file plan =
-    with_process (record unix { descriptions = with_at unix.descriptions 0 (Some console_description); next_pid = 2 }) 0 (first_process file plan)
+    with_process (record unix { files = with_description unix.files 0 console_description; next_pid = 2 }) 0 (first_process file plan)
 
 -- why an input isn't booted
 pub data Refusal : Type 0 where
@@ -130,7 +131,8 @@ loaded file unix (Ok plan) = if_room (started unix file plan)
 -- the machine with `/init` stored
 abbrev pub with_init : ℕ → ℕ → List ℕ → Unix
 with_init pages quantum file =
-    let empty = empty_machine pages quantum in with_file empty init_name file (free_inode empty.inodes)
+    let empty = empty_machine pages quantum in
+    record empty { files = with_file empty.files init_name file (free_inode empty.files.inodes) }
 
 -- at most this many bytes are in a file
 unfoldable pub most_file_bytes : ℕ

@@ -9,10 +9,9 @@ use Rattle.unix_model.specs.declared.calls.Turned.{Turned}
 use Rattle.unix_model.specs.declared.calls.Turned.TheVariants.{Worked, Free}
 use Rattle.unix_model.specs.Calls.{refusal}
 use Rattle.unix_model.specs.Enter.{answered}
-use Rattle.unix_model.specs.Files.{Inode, File, Directory, Pipe, Console, Description}
+use Rattle.unix_model.specs.Files.{Inode, File, Directory, Pipe, Console, inode_of_number}
 use Rattle.unix_model.specs.Process.{Process, Request, Phase, Exiting, descriptor, in_phase}
 use Rattle.unix_model.specs.State.{Unix, with_process}
-use Rattle.unix_model.specs.Tables.{at}
 
 -- what a turn gives: the state after it, its answer, the input's bytes that it took and those that it left, and the
 -- bytes that it put
@@ -53,20 +52,11 @@ write_to unix slot process request input (Some (Directory parent places)) = work
 write_to unix slot process request input (Some (Pipe bytes)) = worked (goes_on unix slot process (answered (refusal Enosys))) input
 write_to unix slot process request input None = worked (goes_on unix slot process (answered (refusal Ebadf))) input
 
--- the inode of a description that is there
-abbrev pub inode_of : (ℕ → Option Inode) → Option Description → Option Inode
-inode_of inodes None = None
-inode_of inodes (Some description) = at inodes description.inode
-
-abbrev pub inode_of_number : Unix → Option ℕ → Option Inode
-inode_of_number unix None = None
-inode_of_number unix (Some number) = inode_of unix.inodes (at unix.descriptions number)
-
 -- write(descriptor, address, count): 0 bytes do nothing (POSIX.1, write)
 abbrev pub write_effect : Unix → ℕ → Process → Request → List ℕ → Turn
 write_effect unix slot process request input =
     if length request.bytes == 0 then worked (goes_on unix slot process (answered 0)) input else
-    write_to unix slot process request input (inode_of_number unix (descriptor process (slice_index request.arguments 0)))
+    write_to unix slot process request input (inode_of_number unix.files (descriptor process (slice_index request.arguments 0)))
 
 -- a line for each call
 abbrev pub call_effect : Unix → ℕ → Process → Request → List ℕ → Call → Turn

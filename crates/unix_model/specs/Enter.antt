@@ -8,7 +8,7 @@ use Rattle.unix_model.specs.declared.calls.Errno.{Errno}
 use Rattle.unix_model.specs.declared.calls.Errno.TheVariants.{Ebadf, Efault, Enosys}
 use Rattle.unix_model.specs.Calls.{call_of, refusal}
 use Rattle.unix_model.specs.Execution.{register}
-use Rattle.unix_model.specs.Files.{Description}
+use Rattle.unix_model.specs.Files.{Files, Description}
 use Rattle.unix_model.specs.Memory.{bytes_at}
 use Rattle.unix_model.specs.Process.{Process, Phase, Sent, Done, descriptor}
 use Rattle.unix_model.specs.State.{Unix}
@@ -42,13 +42,13 @@ abbrev pub description_writes : Option Description → Bool
 description_writes None = false
 description_writes (Some description) = description.writable
 
-abbrev pub number_writes : Unix → Option ℕ → Bool
-number_writes unix None = false
-number_writes unix (Some number) = description_writes (at unix.descriptions number)
+abbrev pub number_writes : Files → Option ℕ → Bool
+number_writes files None = false
+number_writes files (Some number) = description_writes (at files.descriptions number)
 
 -- the descriptor is open for writing
-abbrev pub can_write : Unix → Process → ℕ → Bool
-can_write unix process number = number_writes unix (descriptor process number)
+abbrev pub can_write : Files → Process → ℕ → Bool
+can_write files process number = number_writes files (descriptor process number)
 
 abbrev pub exit_enters : Process → Phase
 exit_enters process =
@@ -58,7 +58,7 @@ exit_enters process =
 abbrev pub write_enters : Unix → Process → Phase
 write_enters unix process =
     let count = cut (argument process 2) in
-    refuse Ebadf when not (can_write unix process (argument process 0)) else
+    refuse Ebadf when not (can_write unix.files process (argument process 0)) else
     refuse Efault unless bytes_at process.memory (argument process 1) count then λ bytes.
     Sent (record { call = Write; arguments = argument process 0 ∷ argument process 1 ∷ count ∷ argument process 3 ∷ []; bytes = bytes })
 

@@ -1,10 +1,10 @@
 -- Files and open descriptions (POSIX.1, file description). Inode numbers are below 1,024 and description numbers below
 -- 2,048. How many places name an inode, how many descriptions it has open, and how many descriptors a description has
 -- is counted in the state, and stored nowhere.
-use Rattle.std.specs.Prelude.{ℕ, ◌*◌, Bool, false, ◌||◌, List, Option, Some, None, length, ◌==◌, nat_lt}
+use Rattle.std.specs.Prelude.{ℕ, ◌*◌, Bool, false, ◌||◌, List, Option, Some, None, length, ◌==◌, nat_lt, if◌then◌else◌}
 use Rattle.std.specs.List.{list_any}
 use Rattle.unix_model.specs.Numbers.{pages_of}
-use Rattle.unix_model.specs.Tables.{at, any_below}
+use Rattle.unix_model.specs.Tables.{at, with_at, any_below}
 
 -- a name in a directory, of 1 to 27 bytes
 pub record Entry : Type 0 where
@@ -24,6 +24,11 @@ pub record Description : Type 0 where
   pub writable : Bool
   pub append : Bool
   pub offset : ℕ
+
+-- all inodes and open descriptions by their numbers
+pub record Files : Type 0 where
+  pub inodes : ℕ → Option Inode
+  pub descriptions : ℕ → Option Description
 
 -- a file's or directory's pages, or the one of a pipe. A place of a directory has 32 bytes
 abbrev pub inode_pages : Option Inode → ℕ
@@ -60,5 +65,26 @@ abbrev pub is_open : (ℕ → Option Description) → ℕ → Bool
 is_open descriptions inode = any_below (λ n. description_names inode (at descriptions n)) 2048
 
 -- the console and the root live always, every other inode while it has an entry or an open description
-abbrev pub is_kept : (ℕ → Option Inode) → (ℕ → Option Description) → ℕ → Bool
-is_kept inodes descriptions inode = nat_lt inode 2 || is_linked inodes inode || is_open descriptions inode
+abbrev pub is_kept : Files → ℕ → Bool
+is_kept files inode = nat_lt inode 2 || is_linked files.inodes inode || is_open files.descriptions inode
+
+-- the files without an inode, unless that is kept
+abbrev pub with_inode_dropped : Files → ℕ → Files
+with_inode_dropped files inode =
+    if is_kept files inode then files else record files { inodes = with_at files.inodes inode None }
+
+-- the files without a description, and without its inode unless that is kept
+abbrev pub with_description_freed : Files → ℕ → Option Description → Files
+with_description_freed files number None = files
+with_description_freed files number (Some description) =
+    with_inode_dropped (record files { descriptions = with_at files.descriptions number None }) description.inode
+
+-- the inode of a description that is there
+abbrev pub inode_of : Files → Option Description → Option Inode
+inode_of files None = None
+inode_of files (Some description) = at files.inodes description.inode
+
+-- the inode that the description of this number is open on
+abbrev pub inode_of_number : Files → Option ℕ → Option Inode
+inode_of_number files None = None
+inode_of_number files (Some number) = inode_of files (at files.descriptions number)

@@ -1,15 +1,14 @@
--- The state of the flat Unix machine: 64 process slots, inodes, open descriptions, the next process id, the pages P of
+-- The state of the flat Unix machine: 64 process slots, inodes and open descriptions, the next process id, the pages P of
 -- the machine, the quantum Q, and the position in the round, below 64 * Q.
 use Rattle.std.specs.Prelude.{ℕ, ◌+◌, ◌*◌, Bool, false, Option, Some, None, ◌==◌, if◌then◌else◌}
 use Rattle.std.specs.List.{list_any}
-use Rattle.unix_model.specs.Files.{Inode, Description, is_kept}
+use Rattle.unix_model.specs.Files.{Files, with_description_freed}
 use Rattle.unix_model.specs.Process.{Process, Phase, Run, Asked, Sent, Done, Exiting, Zombie}
 use Rattle.unix_model.specs.Tables.{at, with_at, any_below}
 
 pub record Unix : Type 0 where
   pub processes : ℕ → Option Process
-  pub inodes : ℕ → Option Inode
-  pub descriptions : ℕ → Option Description
+  pub files : Files
   pub next_pid : ℕ
   pub pages : ℕ
   pub quantum : ℕ
@@ -32,23 +31,11 @@ process_names description (Some process) = list_any (names_description descripti
 abbrev pub has_descriptor : (ℕ → Option Process) → ℕ → Bool
 has_descriptor processes description = any_below (λ slot. process_names description (at processes slot)) 64
 
--- the state without an inode, unless that is kept
-abbrev pub with_inode_dropped : Unix → ℕ → Unix
-with_inode_dropped unix inode =
-    if is_kept unix.inodes unix.descriptions inode then unix else
-    record unix { inodes = with_at unix.inodes inode None }
-
--- the state without a description, and without its inode unless that is kept
-abbrev pub with_description_freed : Unix → ℕ → Option Description → Unix
-with_description_freed unix number None = unix
-with_description_freed unix number (Some description) =
-    with_inode_dropped (record unix { descriptions = with_at unix.descriptions number None }) description.inode
-
 -- the state after a descriptor of a description was closed: one without another descriptor is freed
 abbrev pub with_description_released : Unix → ℕ → Unix
 with_description_released unix number =
     if has_descriptor unix.processes number then unix else
-    with_description_freed unix number (at unix.descriptions number)
+    record unix { files = with_description_freed unix.files number (at unix.files.descriptions number) }
 
 -- the process, a child of process 1 where it was a child of the one that ended
 abbrev pub adopted : ℕ → Process → Process
