@@ -1,8 +1,7 @@
 -- There is nothing from slot 64 on.
-use Rattle.std.proofs.Common.{◌≡◌, ◌≤◌, ℕ, None, arith, refl, length, ap, get_or}
+use Rattle.std.proofs.Common.{◌≡◌, ◌≤◌, ℕ, None, arith, ap}
 use Rattle.std.proofs.Math.ListN.{get_or-eq_default}
 use Rattle.std.specs.Prelude.{option_map}
-use Rattle.unix_model.specs.Process as model
 use Rattle.flat_unix.specs.declared.slots.Slots.{Slots}
 use Rattle.flat_unix.specs.ProcessView.{process_of}
 use Rattle.flat_unix.specs.SlotsView.{slots_of}

@@ -1,9 +1,10 @@
 -- A list of optional things as a table.
-use Rattle.std.proofs.Common.{◌≡◌, ◌≢◌, ℕ, zero, suc, ◌+◌, ◌<◌, ◌≤◌, ◌⊎◌, Bool, true, false, Option, Some, None, List, [], ◌∷◌, ◌++◌, length, get_or, set, replicate, arith, refl, ap, inl, inr, get_or-set_same, get_or-set_other, add-one}
+use Rattle.std.proofs.Common.{◌≡◌, ◌≢◌, ℕ, zero, suc, ◌+◌, ◌<◌, ◌≤◌, ◌⊎◌, Bool, true, false, Option, None, List, [], ◌∷◌, ◌++◌, length, get_or, set, arith, refl, ap, inl, inr, get_or-set_same, get_or-set_other}
 use Rattle.std.proofs.Math.Path.{fun_ext}
 use Rattle.std.proofs.lemmas.Bool.{le-ltb, lt-ltb, ltb-false}
 use Rattle.std.proofs.lemmas.Bool.Decides.{eqb_tells, nat_tests}
-use Rattle.std.specs.Prelude.{option_map, ◌==◌, nat_lt, if◌then◌else◌}
+use Rattle.std.specs.List.{list_any}
+use Rattle.std.specs.Prelude.{◌||◌, map, option_map, ◌==◌, nat_lt, if◌then◌else◌}
 use Rattle.unix_model.specs.Tables.{at, with_at, nothing}
 
 -- one element changed, at a place
@@ -21,21 +22,27 @@ unfolding with_at
 table-set f xs n x inside = fun_ext (λ k. place-set f xs n k x inside)
 
 -- nothing at all
-none-everywhere : {A B : Type 0} (f : A → B) (n k : ℕ) → option_map f (get_or (replicate n None) k None) ≡ None
-none-everywhere f zero k = refl
-none-everywhere f (suc n) zero = refl
-none-everywhere f (suc n) (suc k) = none-everywhere f n k
-
-pub table-none : {A B : Type 0} (f : A → B) (n : ℕ) → (λ k. option_map f (get_or (replicate n None) k None)) ≡ nothing
+pub table-none : {A B : Type 0} (f : A → B) (xs : List (Option A)) → ((k : ℕ) → get_or xs k None ≡ None)
+    → (λ k. option_map f (get_or xs k None)) ≡ nothing
 unfolding nothing
-table-none f n = fun_ext (λ k. none-everywhere f n k)
+table-none f xs free = fun_ext (λ k. ap (option_map f) (free k))
 
-pub replicate-step : {A : Type 0} (x : A) (n : ℕ) → replicate (n + 1) x ≡ replicate n x ++ x ∷ []
-replicate-step x n = rw (add-one n) (go n)
-  where
-    go : (n : ℕ) → replicate (suc n) x ≡ replicate n x ++ x ∷ []
-    go zero = refl
-    go (suc n) = ap (λ xs. x ∷ xs) (go n)
+-- one free place more
+pub free-push : {A : Type 0} (xs : List (Option A)) (k : ℕ) → get_or xs k None ≡ None → get_or (xs ++ None ∷ []) k None ≡ None
+free-push [] zero free = refl
+free-push [] (suc k) free = refl
+free-push (x ∷ xs) zero free = free
+free-push (x ∷ xs) (suc k) free = free-push xs k free
+
+pub free-nothing : {A : Type 0} (k : ℕ) → get_or {A = Option A} [] k None ≡ None
+free-nothing k = refl
+
+-- a test of mapped elements
+pub list_any-mapped : {A B : Type 0} (test : B → Bool) (f : A → B) (xs : List A) → list_any test (map f xs) ≡ list_any (λ x. test (f x)) xs
+list_any-mapped test f [] = refl
+list_any-mapped test f (x ∷ xs) = ap (λ rest. test (f x) || rest) (list_any-mapped test f xs)
+
+pub ruleset places = (free-push, free-nothing, list_any-mapped)
 
 -- the table with what it has below a number changed by f
 unfoldable pub changed_below : {X : Type 0} → (X → X) → (ℕ → Option X) → ℕ → ℕ → Option X
@@ -48,7 +55,7 @@ changed_below-zero f table = fun_ext (λ k. grind (arith, nat_tests))
 -- one place more
 changed_at : {X : Type 0} (f : X → X) (table : ℕ → Option X) (n k : ℕ)
     → (if k == n then option_map f (if nat_lt n n then option_map f (table n) else table n) else (if nat_lt k n then option_map f (table k) else table k))
-        ≡ (if nat_lt k (n + 1) then option_map f (table k) else table k)
+    ≡ (if nat_lt k (n + 1) then option_map f (table k) else table k)
 changed_at f table n k = elim (eqb_tells k n) as (λ _. (if k == n then option_map f (if nat_lt n n then option_map f (table n) else table n) else (if nat_lt k n then option_map f (table k) else table k)) ≡ (if nat_lt k (n + 1) then option_map f (table k) else table k)) [
   | inl same ↦ rw same.0 (rw same.1 (rw (le-ltb n n (omega arith), lt-ltb n (n + 1) (omega arith)) refl))
   | inr apart ↦ rw apart.0 (grind (arith, nat_tests, apart.1))
@@ -76,4 +83,4 @@ pub changed_below-all : {X : Type 0} (f : X → X) (table : ℕ → Option X) (n
 unfolding changed_below at
 changed_below-all f table n beyond = fun_ext (λ k. changed_all_at f table n k beyond)
 
-pub ruleset slots = (table-set, table-none, replicate-step, changed_below-zero, changed_below-step)
+pub ruleset slots = (table-set, table-none, changed_below-zero, changed_below-step)

@@ -1,5 +1,5 @@
 -- What a decoder says of an instruction's fields.
-use Rattle.std.specs.Prelude.{ℕ, ◌<◌}
+use Rattle.std.specs.Prelude.{◌<◌}
 use Rattle.unix_model.specs.declared.instructions.Instr.{Instr}
 use Rattle.unix_model.specs.declared.instructions.Instr.TheVariants.{Lui, OpImm, Ecall}
 

@@ -1,5 +1,5 @@
 -- The flat memory that the pages of a process stand for.
-use Rattle.std.specs.Prelude.{ℕ, Option, option_map}
+use Rattle.std.specs.Prelude.{option_map}
 use Rattle.std.specs.BTreeMap.{get}
 use Rattle.std.specs.Ordering.{nat_cmp}
 use Rattle.unix_model.specs.Memory as model

@@ -22,9 +22,12 @@ phase_of (Zombie word) = model.Zombie word
 abbrev pub process_of : Process → model.Process
 process_of process =
     record {
-      pid = process.pid; parent = process.parent;
-      registers = process.registers; memory = memory_of process.memory;
-      break_start = process.break_start; break_end = process.break_end;
+      pid = process.pid;
+      parent = process.parent;
+      registers = process.registers;
+      memory = memory_of process.memory;
+      break_start = process.break_start;
+      break_end = process.break_end;
       descriptors = process.descriptors;
       phase = phase_of process.phase;
     }

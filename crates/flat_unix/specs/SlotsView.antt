@@ -1,5 +1,5 @@
 -- The table of processes that the slots stand for.
-use Rattle.std.specs.Prelude.{ℕ, Option, None, List, option_map, slice_index_or}
+use Rattle.std.specs.Prelude.{ℕ, Option, None, option_map, slice_index_or}
 use Rattle.unix_model.specs.Process as model
 use Rattle.flat_unix.specs.declared.slots.Slots.{Slots}
 use Rattle.flat_unix.specs.ProcessView.{process_of}

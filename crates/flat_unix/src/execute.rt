@@ -5,10 +5,9 @@ ghost use Rattle.unix_model.specs.Execution.{executed, begun, writes, imm_value}
 ghost use Rattle.flat_unix.specs.Fields.{HasRegisters};
 ghost use Rattle.flat_unix.specs.MemoryView.{memory_of};
 
-use unix_model::{Access, Cause, ImmOp, Instr, Outcome, Regs};
-
 use crate::decode::decode;
 use crate::memory::Memory;
+use unix_model::{Access, Cause, ImmOp, Instr, Outcome, Regs};
 
 /// The value of a register and an immediate.
 fn imm_value(op: ImmOp, word: u32, immediate: i32) -> u32

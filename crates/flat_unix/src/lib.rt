@@ -2,14 +2,19 @@
 #![tactic(auto)]
 
 mod decode;
+mod description;
 mod execute;
 mod files;
+mod inode;
 mod memory;
 mod page;
+mod places;
 mod process;
 mod slots;
 
-pub use files::{Description, Entry, Files, Inode};
+pub use description::Description;
+pub use files::Files;
+pub use inode::{Entry, Inode};
 pub use memory::Memory;
 pub use page::Page;
 pub use process::{Phase, Process, Request};

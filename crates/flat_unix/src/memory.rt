@@ -5,10 +5,9 @@ ghost use Rattle.unix_model.specs.Memory.{byte_at, bytes_at, word_at};
 ghost use Rattle.unix_model.specs.Tables.{nothing};
 ghost use Rattle.flat_unix.specs.MemoryView.{memory_of};
 
+use crate::page::Page;
 use std::alloc::{AllocError, Global};
 use std::collections::BTreeMap;
-
-use crate::page::Page;
 
 /// The mapped pages of a process by their numbers.
 #[derive(Drop)]

@@ -8,12 +8,10 @@ ghost use Rattle.std.specs.List.{list_any};
 ghost use Rattle.unix_model.specs.State.{adopted, names_description, phase_word};
 ghost use Rattle.flat_unix.specs.ProcessView.{process_of, phase_of};
 
-use std::alloc::Global;
-
-use unix_model::{Call, Cause, Outcome, Regs};
-
 use crate::execute::execute;
 use crate::memory::Memory;
+use std::alloc::Global;
+use unix_model::{Call, Cause, Outcome, Regs};
 
 /// A system call on its way to the server that answers it.
 #[derive(Drop)]
@@ -146,10 +144,7 @@ impl Process {
     pub fn into_zombie(mut self, alloc: Global, word: u32) -> Process
         ensures { process_of result ≡ model.zombie (process_of self) word }
     {
-        self.registers = Regs {
-            x: [0; 32],
-            pc: 0,
-        };
+        self.registers = Regs { x: [0; 32], pc: 0 };
         self.memory = Memory::new(alloc);
         self.descriptors = [None; 32];
         self.phase = Phase::Zombie(word);

@@ -2,9 +2,9 @@
 
 ghost use Rattle.std.specs.Prelude.{◌≡◌, length};
 
-use std::alloc::{AllocError, Global};
-
+use crate::places::free_places;
 use crate::process::Process;
+use std::alloc::{AllocError, Global};
 
 /// The process of each slot, or None where it is free.
 #[derive(Drop)]
@@ -25,11 +25,9 @@ impl Slots {
     pub fn new(alloc: Global) -> Result<Slots, AllocError>
         ensures { IfOk result (λ slots. slots_of slots ≡ nothing) }
     {
-        let mut items = Vec::with_capacity(alloc, 64)?;
-        for _ in 0..64usize {
-            items.push(None)?;
-        }
-        Ok(Slots { items })
+        Ok(Slots {
+            items: free_places(alloc, 64)?,
+        })
     }
 
     /// Takes the process out of a slot, which is then free.

@@ -1,5 +1,3 @@
-use Rattle.std.proofs.Common.{ap, ◌∙◌, get_or, None}
-use Rattle.std.specs.Prelude.{option_map}
 use Rattle.flat_unix.specs.ProcessView.{process_of}
 use Rattle.flat_unix.specs.SlotsView.{slots_of}
 use Rattle.flat_unix.proofs.SlotLaws.{table-none}
@@ -7,4 +5,4 @@ use Rattle.flat_unix.proofs.slots.Slots.new.Goals as goal
 
 pub returns : goal.returns
 unfolding slots_of
-returns c = ap (λ xs. λ k. option_map process_of (get_or xs k None)) c.loop.invariant ∙ table-none process_of c.loop.counter
+returns c = table-none process_of _ c.in_ok-free_places.ensures.free
