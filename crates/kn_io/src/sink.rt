@@ -1,7 +1,7 @@
 //! Where bytes go.
 ghost use Rattle.std.specs.Prelude.{◌≡◌, ℕ, List, [], ◌++◌, Option, Some, OnOk, OnErr, ◌≤◌};
 ghost use Rattle.kn_io.specs.Faults.{Rose};
-ghost use Rattle.kn_io.specs.Sink.{GrewByPrefix};
+ghost use Rattle.kn_io.specs.Sink.{GrewByPrefix, prefix-joined, prefix-of_nothing, prefix-longer, prefix-whole};
 
 use crate::failures::Failed;
 
@@ -35,4 +35,16 @@ pub trait Sink {
 
     // What is told is what was put, in order.
     ghost told_grew: { (a b : Self) (x t : List ℕ) → told a ≡ Some t → grew a x b → told b ≡ Some (t ++ x) };
+
+    // Getting a piece and then a front of another is getting a front of the two joined.
+    ghost part_joined: { (a b c : Self) (x y : List ℕ) → grew a x b → GrewByPrefix grew b y c → GrewByPrefix grew a (x ++ y) c } = { prefix-joined grew grew_joined };
+
+    // Getting nothing is getting a front of anything.
+    ghost part_nothing: { (s : Self) (x : List ℕ) → GrewByPrefix grew s x s } = { prefix-of_nothing grew grew_nothing };
+
+    // Getting a front of a piece is getting a front of that piece and more.
+    ghost part_longer: { (a b : Self) (x y : List ℕ) → GrewByPrefix grew a x b → GrewByPrefix grew a (x ++ y) b } = { prefix-longer grew };
+
+    // Getting a piece is getting a front of it.
+    ghost part_whole: { (a b : Self) (x : List ℕ) → grew a x b → GrewByPrefix grew a x b } = { prefix-whole grew };
 }
