@@ -1,4 +1,6 @@
 //! Bytes in memory that are given without fail.
+ghost use Rattle.std.specs.Prelude.{◌≤◌, length};
+
 use crate::failures::Failed;
 use crate::source::Source;
 
@@ -9,8 +11,6 @@ pub struct ByteSource {
     at: usize,
     ghost within: { at ≤ length bytes.items },
 }
-
-ghost use Rattle.std.specs.Prelude.{◌≤◌, length};
 
 impl ByteSource {
     ghost use Rattle.std.specs.Prelude.{◌≡◌};
