@@ -1,21 +1,13 @@
--- What the sinks of this crate got where a put failed.
-use Rattle.std.proofs.Common.{◌≡◌, List, ℕ, [], sym, ◌∙◌, refl, append-nil}
+-- What a sink that tells holds after a put that failed.
+use Rattle.std.proofs.Common.{◌≡◌, List, ℕ, ◌++◌}
+use Rattle.std.specs.Prelude.{Option, Some}
 use Rattle.kn_io.specs.Sink.{GrewByPrefix}
-use Rattle.kn_io.specs.InMemory.{sink_bytes, sink_grew}
-use Rattle.kn_io.specs.Adapters.{grew_untold}
-use Rattle.kn_io.specs.declared.mem_sink.MemSink.{MemSink}
-use Rattle.kn_io.specs.declared.adapters.WriteSink.{WriteSink}
 
--- Where the bytes are as before, a front was put: none of the piece.
-pub sink_part : (old new : MemSink) (bytes : List ℕ) → sink_bytes new ≡ sink_bytes old → GrewByPrefix sink_grew old bytes new
+-- What is told is what was told before, and then a front of the bytes.
+pub told-by_prefix : {S : Type 0} (grew : S → List ℕ → S → Type 0) (told : S → Option (List ℕ)) →
+    ((a b : S) (x t : List ℕ) → told a ≡ Some t → grew a x b → told b ≡ Some (t ++ x)) →
+    (old new : S) (bytes before : List ℕ) → told old ≡ Some before → GrewByPrefix grew old bytes new →
+    (front : List ℕ) × (rest : List ℕ) × (front ++ rest ≡ bytes) × (told new ≡ Some (before ++ front))
 unfolding GrewByPrefix
-sink_part old new bytes same = ([], bytes, refl, same ∙ sym (append-nil (sink_bytes old)))
-
-pub ruleset in_memory = (sink_part)
-
--- Where nothing is told, any front may have been put.
-pub untold_part : {W : Type 0} (old new : WriteSink W) (bytes : List ℕ) → GrewByPrefix grew_untold old bytes new
-unfolding GrewByPrefix
-untold_part old new bytes = (bytes, [], append-nil bytes, tt)
-
-pub ruleset untold = (untold_part)
+told-by_prefix grew told law old new bytes before telling part =
+    (part.0, part.1, part.2, law old new part.0 before telling part.3)

@@ -17,3 +17,6 @@ takes-joined old between None x y first second = rw second at first
 pub takes-told : (old new : Option (List ℕ)) (x bytes : List ℕ) → Takes old x new → old ≡ Some bytes → (rest : List ℕ) × (bytes ≡ x ++ rest) × (new ≡ Some rest)
 takes-told old (Some rest) x bytes taken told = (rest, cc, refl)
 takes-told old None x bytes taken told = let no : Some bytes ≡ None = sym told ∙ taken in cc
+
+-- For code that takes one list of bytes after another.
+pub ruleset taking = (takes-nothing, takes-joined)

@@ -53,10 +53,7 @@ impl<R: Read + Drop> Source for ReadSource<R> {
         match self.bytes.next() {
             Some(Ok(byte)) => Ok(Some(byte)),
             None => Ok(None),
-            Some(Err(_)) => {
-                self.faults = self.faults.saturating_add(1);
-                Err(Failed)
-            }
+            Some(Err(_)) => Err(count_fault(&mut self.faults)),
         }
     }
 }
@@ -85,16 +82,14 @@ impl<W: Write> WriteSink<W> {
     ///
     /// `Failed` where the writer failed. The count of faults rose, up to 2^64 - 1.
     pub fn flush(&mut self) -> Result<(), Failed>
+        ensures bytes { Keeps (W.contents (written_to self.old)) (W.contents (written_to self.new)) }
         ensures same { OnOk result (write_faults self.new ≡ write_faults self.old) }
         ensures counted { write_faults self.old ≤ write_faults self.new }
         ensures failed { OnErr result (Rose (write_faults self.old) (write_faults self.new)) }
     {
         match self.writer.flush() {
             Ok(()) => Ok(()),
-            Err(_) => {
-                self.faults = self.faults.saturating_add(1);
-                Err(Failed)
-            }
+            Err(_) => Err(count_fault(&mut self.faults)),
         }
     }
 }
@@ -112,7 +107,7 @@ impl<W: Write> Sink for WriteSink<W> {
     /// # Errors
     ///
     /// `Failed` where the writer failed. The count of faults rose, up to 2^64 - 1.
-    #[tactic(auto, using(crate::proofs::Growing::untold))]
+    #[tactic(auto, using(crate::proofs::SinkParts::parts))]
     fn put(&mut self, bytes: &[u8]) -> Result<(), Failed>
         ensures grew { OnOk result (grew_untold self.old bytes.now self.new) }
         ensures part { OnErr result (GrewByPrefix grew_untold self.old bytes.now self.new) }
@@ -123,10 +118,7 @@ impl<W: Write> Sink for WriteSink<W> {
     {
         match self.writer.write_all(bytes) {
             Ok(()) => Ok(()),
-            Err(_) => {
-                self.faults = self.faults.saturating_add(1);
-                Err(Failed)
-            }
+            Err(_) => Err(count_fault(&mut self.faults)),
         }
     }
 
@@ -135,4 +127,13 @@ impl<W: Write> Sink for WriteSink<W> {
     ghost grew_joined = { grew_untold-joined };
 
     ghost told_grew = { grew_untold-told };
+}
+
+// Counts a fault, up to the last value of a count.
+fn count_fault(faults: &mut u64) -> Failed
+    ensures kept { faults.old ≤ faults.new }
+    ensures rose { Rose faults.old faults.new }
+{
+    *faults = faults.saturating_add(1);
+    Failed
 }

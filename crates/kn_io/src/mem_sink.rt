@@ -70,7 +70,7 @@ impl Sink for MemSink {
     ///
     /// `Failed` exactly where the number of this call is listed or the bytes would pass the room.
     /// Nothing is put then.
-    #[tactic(auto, using(crate::proofs::Growing::in_memory))]
+    #[tactic(auto, using(crate::proofs::SinkParts::parts))]
     fn put(&mut self, bytes: &[u8]) -> Result<(), Failed>
         ensures grew { OnOk result (sink_grew self.old bytes.now self.new) }
         ensures part { OnErr result (GrewByPrefix sink_grew self.old bytes.now self.new) }
