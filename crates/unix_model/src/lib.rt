@@ -3,4 +3,4 @@
 
 mod elf;
 
-pub use elf::{ElfFault, Load};
+pub use elf::{ElfFault, Load, MOST_LOADS};
