@@ -3,4 +3,4 @@
 
 mod elf;
 
-pub use elf::{ElfFault, Load, MOST_LOADS};
+pub use elf::{ElfFault, FileHeader, Load, MOST_LOADS, ProgramHeader};
