@@ -1,5 +1,5 @@
 pub mod Fields
-pub mod Tests
+pub mod TestLemmas
 pub mod LoadLemmas
 pub mod BreakLemmas
 pub mod PlanLemmas

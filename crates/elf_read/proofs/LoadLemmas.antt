@@ -8,7 +8,7 @@ use Rattle.unix_model.specs.declared.elf.ElfFault.{ElfFault}
 use Rattle.unix_model.specs.declared.elf.ElfFault.TheVariants.{NotStatic}
 use Rattle.unix_model.specs.declared.elf.ProgramHeader.{ProgramHeader}
 use Rattle.unix_model.specs.Elf.{load_of, load_tests, loads_end, loads_with, then_with, loads_of_first, program_header, first_of_tests}
-use Rattle.elf_read.proofs.Tests.{none_holds, first_of_tests-none, NoneHolds}
+use Rattle.elf_read.proofs.TestLemmas.{none_holds, first_of_tests-none, NoneHolds}
 use Rattle.elf_read.specs.Accepted.{IsLoadable}
 
 -- the loads of no header, and of one header more

@@ -9,7 +9,7 @@ use Rattle.unix_model.specs.declared.elf.ElfFault.{ElfFault}
 use Rattle.unix_model.specs.declared.elf.ElfFault.TheVariants.{Short, BadSegment}
 use Rattle.unix_model.specs.Elf.{LoadPlan, load_end, file_header, file_tests, first_of_tests, loads_of_first, plan_with, plan_of, break_start_of}
 use Rattle.elf_read.specs.Accepted.{IsLoadable, IsSound, PlansAreSound}
-use Rattle.elf_read.proofs.Tests.{NoneHolds, none_holds, first_of_tests-none, first_of_tests-fault}
+use Rattle.elf_read.proofs.TestLemmas.{NoneHolds, none_holds, first_of_tests-none, first_of_tests-fault}
 use Rattle.elf_read.proofs.LoadLemmas.{All-loads_of_first}
 use Rattle.elf_read.proofs.BreakLemmas.{break_start-boundary, break_start-past, break_start-least, break_start-le}
 
