@@ -3,6 +3,7 @@
 ghost use Rattle.std.specs.Prelude.{◌≡◌, ◌+◌, ◌*◌, ◌≤◌, length, Ok, Err, IfOk};
 ghost use Rattle.unix_model.specs.Elf.{first_of_tests, file_tests, plan_of};
 ghost use Rattle.elf_read.specs.Shown.{shown_answer, shown_plan};
+ghost use Rattle.elf_read.specs.Checked.{checked_file_header};
 ghost use Rattle.elf_read.specs.Accepted.{IsSound, PlansAreSound};
 
 use crate::file_bytes::FileBytes;
@@ -49,6 +50,18 @@ fn checked_header(file_length: u32, header: FileHeader) -> Result<FileHeader, El
     Ok(header)
 }
 
+/// The header of a file, where it passes its tests.
+#[tactic(auto, unfolding(unix_model::specs::Elf::file_tests))]
+fn read_checked_header<B: FileBytes>(file: &B) -> Result<FileHeader, ElfFault>
+    ensures { result ≡ checked_file_header (B.bytes file.now) }
+{
+    let file_length = file.length();
+    if file_length < 52 {
+        return Err(ElfFault::Short);
+    }
+    checked_header(file_length, read_file_header(file))
+}
+
 /// The plan of a file, or why it has none.
 ///
 /// The tests of the file header come first, in this order: Short where the file has fewer than 52 bytes; NotElf where
@@ -64,11 +77,7 @@ pub fn read<B: FileBytes>(file: &B) -> Result<ElfPlan, ElfFault>
     ensures plan { shown_answer result ≡ plan_of (B.bytes file.now) }
     ensures sound { IfOk result (λ plan. IsSound (length (B.bytes file.now)) (shown_plan plan)) }
 {
-    let file_length = file.length();
-    if file_length < 52 {
-        return Err(ElfFault::Short);
-    }
-    let header = match checked_header(file_length, read_file_header(file)) {
+    let header = match read_checked_header(file) {
         Ok(header) => header,
         Err(fault) => return Err(fault),
     };
