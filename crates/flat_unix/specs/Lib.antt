@@ -4,3 +4,5 @@ pub mod ProcessView
 pub mod SlotsView
 pub mod InodeView
 pub mod FilesView
+pub mod FlatView
+pub mod Steps

@@ -4,7 +4,7 @@ use Rattle.unix_model.specs.Process as model
 use Rattle.flat_unix.specs.declared.process.Phase.{Phase}
 use Rattle.flat_unix.specs.declared.process.Phase.TheVariants.{Run, Asked, Sent, Done, Exiting, Zombie}
 use Rattle.flat_unix.specs.declared.process.Process.{Process}
-use Rattle.flat_unix.specs.declared.process.Request.{Request}
+use Rattle.flat_unix.specs.declared.request.Request.{Request}
 use Rattle.flat_unix.specs.MemoryView.{memory_of}
 
 abbrev pub request_of : Request → model.Request

@@ -1,6 +1,6 @@
 //! Flat memory: pages by their numbers.
 
-ghost use Rattle.std.specs.Prelude.{◌≡◌, ℕ, ◌<◌, ◌≤◌, ◌+◌, ◌%◌, ◌^◌, IfOk, option_map};
+ghost use Rattle.std.specs.Prelude.{◌≡◌, ℕ, ◌<◌, ◌≤◌, ◌+◌, ◌%◌, ◌^◌, IfOk, IfSome, option_map, vec_len};
 ghost use Rattle.unix_model.specs.Memory.{byte_at, bytes_at, word_at};
 ghost use Rattle.unix_model.specs.Tables.{nothing};
 ghost use Rattle.flat_unix.specs.MemoryView.{memory_of};
@@ -84,7 +84,8 @@ impl Memory {
         count: u32,
     ) -> Result<Option<Vec<u8>>, AllocError>
         requires { count ≤ 4096 }
-        ensures { IfOk result (λ found. option_map (λ bytes. bytes.items) found ≡ bytes_at (memory_of self.now) address count) }
+        ensures found { IfOk result (λ found. option_map (λ bytes. bytes.items) found ≡ bytes_at (memory_of self.now) address count) }
+        ensures len { IfOk result (λ found. IfSome found (λ bytes. vec_len bytes ≡ count)) }
     {
         let mut bytes = Vec::new(alloc);
         for i in 0..count {

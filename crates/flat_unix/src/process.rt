@@ -1,6 +1,6 @@
 //! A process, and the steps that it makes by itself.
 
-ghost use Rattle.std.specs.Prelude.{◌≡◌, ◌<◌, []};
+ghost use Rattle.std.specs.Prelude.{◌≡◌, ◌<◌, [], IfSome};
 ghost use Rattle.unix_model.specs.Process as model;
 ghost use Rattle.unix_model.specs.Enter.{argument};
 ghost use Rattle.unix_model.specs.Turn.{ran, returned, lowest_open, signal_of, phase_after as phase_after_outcome};
@@ -10,18 +10,9 @@ ghost use Rattle.flat_unix.specs.ProcessView.{process_of, phase_of};
 
 use crate::execute::execute;
 use crate::memory::Memory;
+use crate::request::Request;
 use std::alloc::Global;
-use unix_model::{Call, Cause, Outcome, Regs};
-
-/// A system call on its way to the server that answers it.
-#[derive(Drop)]
-pub struct Request {
-    pub call: Call,
-    /// `a0` to `a3`, but a count that was cut stands here cut.
-    pub arguments: [u32; 4],
-    /// The bytes that it brings.
-    pub bytes: Vec<u8>,
-}
+use unix_model::{Cause, Outcome, Regs};
 
 /// Where a process stands between two turns.
 #[derive(Drop)]
@@ -120,7 +111,8 @@ impl Process {
     /// The lowest descriptor that is open.
     #[tactic(auto, using(unix_model::proofs::TableLaws::steps), unfolding(unix_model::specs::Turn::lowest_open))]
     pub fn lowest_open(&self) -> Option<u32>
-        ensures { result ≡ lowest_open (process_of self.now) }
+        ensures least { result ≡ lowest_open (process_of self.now) }
+        ensures inside { IfSome result (λ number. number < 32) }
     {
         let mut lowest = None;
         for number in 0..32 {

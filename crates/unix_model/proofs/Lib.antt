@@ -1,3 +1,5 @@
 pub mod Splitting
 pub mod TableLaws
 pub mod MemoryLaws
+pub mod EnterLaws
+pub mod TurnLaws

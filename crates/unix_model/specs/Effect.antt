@@ -9,7 +9,7 @@ use Rattle.unix_model.specs.declared.calls.Turned.{Turned}
 use Rattle.unix_model.specs.declared.calls.Turned.TheVariants.{Worked, Free}
 use Rattle.unix_model.specs.Calls.{refusal}
 use Rattle.unix_model.specs.Enter.{answered}
-use Rattle.unix_model.specs.Files.{Inode, File, Directory, Pipe, Console, inode_of_number}
+use Rattle.unix_model.specs.Files.{Files, Inode, File, Directory, Pipe, Console, inode_of_number}
 use Rattle.unix_model.specs.Process.{Process, Request, Phase, Exiting, descriptor, in_phase}
 use Rattle.unix_model.specs.State.{Unix, with_process}
 
@@ -43,22 +43,34 @@ abbrev pub exit_effect : Unix → ℕ → Process → Request → List ℕ → T
 exit_effect unix slot process request input =
     worked (goes_on unix slot process (Exiting (256 * (slice_index request.arguments 0 % 256)))) input
 
+-- an answer to a call, and the bytes that it puts to the console
+pub record Answer : Type 0 where
+  pub phase : Phase
+  pub put : List ℕ
+
+-- an answer that puts nothing
+abbrev pub answers : ℕ → Answer
+answers value = record { phase = answered value; put = [] }
+
 -- write to an inode: to the console, all bytes. Other inodes can't be open for writing yet
-abbrev pub write_to : Unix → ℕ → Process → Request → List ℕ → Option Inode → Turn
-write_to unix slot process request input (Some Console) =
-    worked_putting (goes_on unix slot process (answered (length request.bytes))) input request.bytes
-write_to unix slot process request input (Some (File bytes)) = worked (goes_on unix slot process (answered (refusal Enosys))) input
-write_to unix slot process request input (Some (Directory parent places)) = worked (goes_on unix slot process (answered (refusal Enosys))) input
-write_to unix slot process request input (Some (Pipe bytes)) = worked (goes_on unix slot process (answered (refusal Enosys))) input
-write_to unix slot process request input None = worked (goes_on unix slot process (answered (refusal Ebadf))) input
+abbrev pub write_to : List ℕ → Option Inode → Answer
+write_to bytes (Some Console) = record { phase = answered (length bytes); put = bytes }
+write_to bytes (Some (File old)) = answers (refusal Enosys)
+write_to bytes (Some (Directory parent places)) = answers (refusal Enosys)
+write_to bytes (Some (Pipe old)) = answers (refusal Enosys)
+write_to bytes None = answers (refusal Ebadf)
 
 -- write(descriptor, address, count): 0 bytes do nothing (POSIX.1, write)
-abbrev pub write_effect : Unix → ℕ → Process → Request → List ℕ → Turn
-write_effect unix slot process request input =
-    if length request.bytes == 0 then worked (goes_on unix slot process (answered 0)) input else
-    write_to unix slot process request input (inode_of_number unix.files (descriptor process (slice_index request.arguments 0)))
+abbrev pub write_answer : Files → Process → Request → Answer
+write_answer files process request =
+    if length request.bytes == 0 then answers 0 else
+    write_to request.bytes (inode_of_number files (descriptor process (slice_index request.arguments 0)))
+
+-- the process goes on with this answer
+abbrev pub goes_on_with : Unix → ℕ → Process → List ℕ → Answer → Turn
+goes_on_with unix slot process input answer = worked_putting (goes_on unix slot process answer.phase) input answer.put
 
 -- a line for each call
 abbrev pub call_effect : Unix → ℕ → Process → Request → List ℕ → Call → Turn
 call_effect unix slot process request input Exit = exit_effect unix slot process request input
-call_effect unix slot process request input Write = write_effect unix slot process request input
+call_effect unix slot process request input Write = goes_on_with unix slot process input (write_answer unix.files process request)
