@@ -1,5 +1,5 @@
 -- Turns of a process that was taken out of its slot.
-use Rattle.std.proofs.Common.{◌≡◌, ℕ, Option, Some, None, List, [], refl, sym, ap, ◌∙◌}
+use Rattle.std.proofs.Common.{◌≡◌, ℕ, Option, Some, None, List, refl, sym, ap, ◌∙◌}
 use Rattle.unix_model.specs.declared.calls.Call.{Call}
 use Rattle.unix_model.specs.declared.calls.Call.TheVariants.{Exit, Write}
 use Rattle.unix_model.specs.Effect.{Turn, idle, goes_on, call_effect}
@@ -23,7 +23,7 @@ ticked_turn turn = record turn { state = ticked turn.state }
 pub put-back : (unix : Unix) (slot : ℕ) (process : Process) → at unix.processes slot ≡ Some process → with_process (without_process unix slot) slot process ≡ unix
 put-back unix slot process there =
     ap (λ (processes : ℕ → Option Process). record unix { processes = processes })
-        (with_at-twice unix.processes slot None (Some process) ∙ with_at-same unix.processes slot (Some process) there)
+    (with_at-twice unix.processes slot None (Some process) ∙ with_at-same unix.processes slot (Some process) there)
 
 -- of two processes in one slot the last counts
 pub with_process-twice : (unix : Unix) (slot : ℕ) (first last : Process) → with_process (with_process unix slot first) slot last ≡ with_process unix slot last

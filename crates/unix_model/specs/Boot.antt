@@ -1,7 +1,7 @@
 -- The machine at its start. Inode 0 is the console and inode 1 the root directory. A file that is stored gets the least
 -- free inode and the next place of the root. Then `/init` is loaded in slot 0 as process 1, with the string `/init` as
 -- its one argument, and descriptors 0 to 2 that share one description of the console.
-use Rattle.std.specs.Prelude.{ℕ, true, false, not, ◌||◌, List, [], ◌∷◌, ◌++◌, length, replicate, slice_index, Option, Some, None, is_none, codes, Result, Ok, Err, bytes_eq, ◌==◌, nat_lt, if◌then◌else◌}
+use Rattle.std.specs.Prelude.{ℕ, true, false, not, ◌&&◌, ◌||◌, List, [], ◌∷◌, ◌++◌, length, replicate, slice_index, Option, Some, None, is_none, codes, Result, Ok, Err, bytes_eq, ◌==◌, nat_lt, nat_le, if◌then◌else◌}
 use Rattle.std.specs.Option.{option_and_then}
 use Rattle.unix_model.specs.declared.elf.ElfFault.{ElfFault}
 use Rattle.unix_model.specs.Elf.{LoadPlan, plan_of}
@@ -28,9 +28,9 @@ empty_machine pages quantum =
       position = 0;
     }
 
--- the least free inode number, or None where all 1,024 are taken
+-- the least free inode number, or None where all 1,024 are taken; the console's and the root's never are free
 unfoldable pub free_inode : (ℕ → Option Inode) → Option ℕ
-free_inode inodes = least_below (λ n. is_none (at inodes n)) 1024
+free_inode inodes = least_below (λ n. nat_le 2 n && is_none (at inodes n)) 1024
 
 -- the directory with an entry at its end
 abbrev pub with_entry : Option Inode → Entry → Option Inode
@@ -40,13 +40,49 @@ with_entry (Some (Pipe bytes)) entry = Some (Pipe bytes)
 with_entry (Some Console) entry = Some Console
 with_entry None entry = None
 
--- the files with a new one of this name in the root, at a free inode number
-abbrev pub with_file : Files → List ℕ → List ℕ → Option ℕ → Files
-with_file files name bytes None = files
-with_file files name bytes (Some number) =
-    record files {
-      inodes = with_at (with_at files.inodes number (Some (File bytes))) 1 (with_entry (at files.inodes 1) (record { name = name; inode = number }));
+-- the inodes with an entry more in the root
+abbrev pub with_root_entry : (ℕ → Option Inode) → Entry → ℕ → Option Inode
+with_root_entry inodes entry = with_at inodes 1 (with_entry (at inodes 1) entry)
+
+-- the state with a new file of this name in the root, at a free inode number
+abbrev pub with_file : Unix → List ℕ → List ℕ → ℕ → Unix
+with_file unix name bytes number =
+    record unix {
+      files = record unix.files {
+        inodes = with_root_entry (with_at unix.files.inodes number (Some (File bytes))) (record { name = name; inode = number });
+      };
     }
+
+-- the places of a directory
+abbrev pub places_of : Option Inode → List (Option Entry)
+places_of (Some (Directory parent places)) = places
+places_of (Some (File bytes)) = []
+places_of (Some (Pipe bytes)) = []
+places_of (Some Console) = []
+places_of None = []
+
+-- at most this many bytes are in a file, and this many places in a directory
+unfoldable pub most_file_bytes : ℕ
+most_file_bytes = 4194304
+
+unfoldable pub most_places : ℕ
+most_places = 1024
+
+-- a state that has room
+abbrev pub if_room : Unix → Option Unix
+if_room unix = if has_room unix then Some unix else None
+
+-- the state with a new file at an inode number, where there is one
+abbrev pub stored_at : Unix → List ℕ → List ℕ → Option ℕ → Option Unix
+stored_at unix name bytes None = None
+stored_at unix name bytes (Some number) = if_room (with_file unix name bytes number)
+
+-- the state with a new file of this name in the root; None where the file is too long, or a place, an inode or room is
+-- missing
+unfoldable pub stored : Unix → List ℕ → List ℕ → Option Unix
+stored unix name bytes =
+    if nat_lt most_file_bytes (length bytes) || nat_le most_places (length (places_of (at unix.files.inodes 1))) then None else
+    stored_at unix name bytes (free_inode unix.files.inodes)
 
 -- the inode of a place that has this name
 abbrev pub place_inode : List ℕ → Option Entry → Option ℕ
@@ -57,14 +93,6 @@ place_inode name (Some entry) = if bytes_eq entry.name name then Some entry.inod
 abbrev pub inode_named : List (Option Entry) → List ℕ → Option ℕ
 inode_named [] name = None
 inode_named (place ∷ places) name = option_or (place_inode name place) (inode_named places name)
-
--- the places of a directory
-abbrev pub places_of : Option Inode → List (Option Entry)
-places_of (Some (Directory parent places)) = places
-places_of (Some (File bytes)) = []
-places_of (Some (Pipe bytes)) = []
-places_of (Some Console) = []
-places_of None = []
 
 -- the bytes of a file
 abbrev pub bytes_of : Option Inode → Option (List ℕ)
@@ -119,31 +147,25 @@ pub data Refusal : Type 0 where
   NoRoom : Refusal
   Elf : ElfFault → Refusal
 
--- a machine that has room
-abbrev pub if_room : Unix → Result Unix Refusal
-if_room unix = if has_room unix then Ok unix else Err NoRoom
+-- the machine, unless it has no room
+abbrev pub or_no_room : Option Unix → Result Unix Refusal
+or_no_room None = Err NoRoom
+or_no_room (Some unix) = Ok unix
 
--- the machine with the program of its file loaded
+-- the machine with the program of a stored file loaded
 abbrev pub loaded : List ℕ → Unix → Result LoadPlan ElfFault → Result Unix Refusal
 loaded file unix (Err fault) = Err (Elf fault)
-loaded file unix (Ok plan) = if_room (started unix file plan)
+loaded file unix (Ok plan) = or_no_room (if_room (started unix file plan))
 
--- the machine with `/init` stored
-abbrev pub with_init : ℕ → ℕ → List ℕ → Unix
-with_init pages quantum file =
-    let empty = empty_machine pages quantum in
-    record empty { files = with_file empty.files init_name file (free_inode empty.files.inodes) }
-
--- at most this many bytes are in a file
-unfoldable pub most_file_bytes : ℕ
-most_file_bytes = 4194304
+-- the same, where the file could be stored
+abbrev pub loaded_where_stored : List ℕ → Option Unix → Result Unix Refusal
+loaded_where_stored file None = Err NoRoom
+loaded_where_stored file (Some unix) = loaded file unix (plan_of file)
 
 -- Boot of an input that is one ELF file: the file is stored, and then loaded. What is refused, in this order: an input
 -- that doesn't begin with 7F; a file that is too long, or for which and for the root there is no room; what the plan
 -- refuses; a program for which there is no room.
 unfoldable pub booted : ℕ → ℕ → List ℕ → Result Unix Refusal
 booted pages quantum file =
-    let stored = with_init pages quantum file in
     if not (slice_index file 0 == 0x7F) then Err NotBuilt else
-    if nat_lt most_file_bytes (length file) || not (has_room stored) then Err NoRoom else
-    loaded file stored (plan_of file)
+    loaded_where_stored file (stored (empty_machine pages quantum) init_name file)
