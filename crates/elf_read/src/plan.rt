@@ -12,6 +12,27 @@ use crate::loads::{break_start, read_loads};
 use arrayvec::ArrayVec;
 use unix_model::{ElfFault, FileHeader, Load};
 
+/// The class of 32-bit files, EI_CLASS.
+const CLASS_32: u8 = 1;
+
+/// The encoding with the lowest byte first, EI_DATA.
+const LOW_FIRST: u8 = 1;
+
+/// The version of ELF, EI_VERSION.
+const VERSION: u8 = 1;
+
+/// RISC-V, e_machine.
+const RISC_V: u16 = 243;
+
+/// An executable, e_type.
+const EXECUTABLE: u16 = 2;
+
+/// The size of a program header in bytes, e_phentsize.
+const HEADER_BYTES: u16 = 32;
+
+/// How many program headers are taken, at most.
+const MOST_HEADERS: u16 = 64;
+
 /// By what a file is loaded.
 #[derive(Drop)]
 pub struct ElfPlan {
@@ -32,16 +53,16 @@ fn checked_header(file_length: u32, header: FileHeader) -> Result<FileHeader, El
     if !header.magic {
         return Err(ElfFault::NotElf);
     }
-    if header.class != 1 || header.encoding != 1 || header.machine != 243 {
+    if header.class != CLASS_32 || header.encoding != LOW_FIRST || header.machine != RISC_V {
         return Err(ElfFault::NotRv32);
     }
-    if header.version != 1 || header.header_bytes != 32 || header.entry % 4 != 0 {
+    if header.version != VERSION || header.header_bytes != HEADER_BYTES || header.entry % 4 != 0 {
         return Err(ElfFault::BadHeader);
     }
-    if header.kind != 2 {
+    if header.kind != EXECUTABLE {
         return Err(ElfFault::NotStatic);
     }
-    if header.headers > 64 {
+    if header.headers > MOST_HEADERS {
         return Err(ElfFault::TooMany);
     }
     if u64::from(header.table) + 32 * u64::from(header.headers) > u64::from(file_length) {
