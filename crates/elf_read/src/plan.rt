@@ -83,17 +83,22 @@ fn read_checked_header<B: FileBytes>(file: &B) -> Result<FileHeader, ElfFault>
     checked_header(file_length, read_file_header(file))
 }
 
-/// The plan of a file, or why it has none.
+/// The plan of a file, or why it has none (System V gABI, ELF header and program header).
 ///
-/// The tests of the file header come first, in this order: Short where the file has fewer than 52 bytes; NotElf where
-/// the magic number is missing; NotRv32 where class, encoding or machine is another; BadHeader where the version isn't
-/// 1, program headers don't have 32 bytes or the entry is no multiple of 4; NotStatic where the file is no executable;
-/// TooMany where it has more than 64 program headers; Short where their table passes the file's end.
+/// The file header is tested first, in this order:
 ///
-/// Then the program headers are taken in order: NotStatic for PT_DYNAMIC and PT_INTERP, and of those PT_LOAD headers
-/// that have memory TooMany for one more than a plan may have, and BadSegment where it has more bytes in the file than in
-/// memory, passes the end of the file or of the memory for loads, or overlaps an earlier load. BadSegment too where no
-/// load remains. Whatever else the headers say is passed over.
+/// - Short: the file has fewer than 52 bytes.
+/// - NotElf: the magic number is missing.
+/// - NotRv32: class, encoding or machine is another.
+/// - BadHeader: the version isn't 1, a program header hasn't 32 bytes, or the entry is no multiple of 4.
+/// - NotStatic: the file is no executable.
+/// - TooMany: there are more than 64 program headers.
+/// - Short: the table of program headers passes the file's end.
+///
+/// Then the program headers are taken in order. PT_DYNAMIC and PT_INTERP are NotStatic, and a header that isn't PT_LOAD
+/// or has no bytes in memory is passed over. A load is TooMany where the plan has as many as it may have. It is BadSegment
+/// where it has more bytes in the file than in memory, passes the end of the file or of user memory, or overlaps an
+/// earlier load. BadSegment is also the answer where no load remains. All else that the headers say is ignored.
 pub fn read<B: FileBytes>(file: &B) -> Result<ElfPlan, ElfFault>
     ensures plan { shown_answer result ≡ plan_of (B.bytes file.now) }
     ensures sound { IfOk result (λ plan. IsSound (length (B.bytes file.now)) (shown_plan plan)) }
