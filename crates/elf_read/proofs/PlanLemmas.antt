@@ -11,7 +11,7 @@ use Rattle.unix_model.specs.Elf.{LoadPlan, load_end, file_header, file_tests, lo
 use Rattle.elf_read.specs.Checked.{checked_file_header}
 use Rattle.elf_read.specs.Accepted.{IsLoadable, IsSound, PlansAreSound}
 use Rattle.elf_read.proofs.TestLemmas.{NoneHolds, none_holds, first_of_tests-none, first_of_tests-fault}
-use Rattle.elf_read.proofs.LoadLemmas.{All-loads_of_first}
+use Rattle.elf_read.proofs.LoadLemmas.{AreLoadable-loads_of_first}
 use Rattle.elf_read.proofs.BreakLemmas.{break_start-boundary, break_start-past, break_start-least, break_start-le}
 
 -- this is the header of a file that passes its tests
@@ -57,8 +57,8 @@ entry_aligned bytes header passed = multiple_of_4 (not (header.version == 1)) (n
 -- the loads that the table gives end in user memory, also where they are seen as a slice
 pub ends_within : (bytes : List ℕ) (n table : ℕ) (loads slice : List Load) → Ok loads ≡ loads_of_first n bytes table → slice ≡ loads → All (λ load. load_end load ≤ 0x7FFE_0000) slice
 ends_within bytes n table loads slice found same =
-    let all = All-loads_of_first n bytes table loads (sym found) in
-    let ends = All-weaker (IsLoadable (length bytes)) (λ load. load_end load ≤ 0x7FFE_0000) (λ load h. h.in_memory) loads all in
+    let are = AreLoadable-loads_of_first n bytes table loads (sym found) in
+    let ends = All-weaker (IsLoadable (length bytes)) (λ load. load_end load ≤ 0x7FFE_0000) (λ load h. h.in_memory) loads are.each in
     All-same (λ load. load_end load ≤ 0x7FFE_0000) slice loads same ends
 
 -- what the test for an empty list says
@@ -98,7 +98,7 @@ sound_with bytes header plan (load ∷ loads) aligned is h =
     let sound : IsSound (length bytes) made = record {
       aligned = aligned;
       some = omega arith;
-      loadable = All-loads_of_first header.headers bytes header.table all is;
+      loadable = AreLoadable-loads_of_first header.headers bytes header.table all is;
       break_past = record { boundary = break_start-boundary all; ends = break_start-past all };
       break_least = λ address past. break_start-least all address past.boundary past.ends;
       break_in_memory = break_start-le all (ends_within bytes header.headers header.table all all (sym is) refl);

@@ -1,7 +1,8 @@
 -- What holds of every plan that a file has.
-use Rattle.std.specs.Prelude.{◌≡◌, ℕ, ◌+◌, ◌%◌, ◌<◌, ◌≤◌, List, length, All, Ok}
+use Rattle.std.specs.Prelude.{◌≡◌, ℕ, ◌+◌, ◌%◌, ◌<◌, ◌≤◌, List, length, All, AllPairs, false, Ok}
 use Rattle.unix_model.specs.declared.elf.Load.{Load}
-use Rattle.unix_model.specs.Elf.{LoadPlan, load_end, plan_of}
+use Rattle.unix_model.specs.declared.elf.TheConstants.{MOST_LOADS}
+use Rattle.unix_model.specs.Elf.{LoadPlan, load_end, overlaps, plan_of}
 
 -- a load of a file with so many bytes: it lies in the file and in user memory, and isn't empty
 pub record IsLoadable (file_length : ℕ) (load : Load) : Type 0 where
@@ -9,6 +10,12 @@ pub record IsLoadable (file_length : ℕ) (load : Load) : Type 0 where
   pub in_memory : load_end load ≤ 0x7FFE_0000
   pub holds_file_bytes : load.file_bytes ≤ load.memory_bytes
   pub not_empty : 0 < load.memory_bytes
+
+-- the loads of a file with so many bytes: no more than a plan may have, and none with an address of an earlier one
+pub record AreLoadable (file_length : ℕ) (loads : List Load) : Type 0 where
+  pub each : All (IsLoadable file_length) loads
+  pub apart : AllPairs (λ load later. overlaps later load ≡ false) loads
+  pub few : length loads ≤ MOST_LOADS
 
 -- an address at which a page begins, and not below the end of any of these loads
 pub record IsPast (loads : List Load) (address : ℕ) : Type 0 where
@@ -19,7 +26,7 @@ pub record IsPast (loads : List Load) (address : ℕ) : Type 0 where
 pub record IsSound (file_length : ℕ) (plan : LoadPlan) : Type 0 where
   pub aligned : plan.entry % 4 ≡ 0
   pub some : 0 < length plan.loads
-  pub loadable : All (IsLoadable file_length) plan.loads
+  pub loadable : AreLoadable file_length plan.loads
   pub break_past : IsPast plan.loads plan.break_start
   pub break_least : (address : ℕ) → IsPast plan.loads address → plan.break_start ≤ address
   pub break_in_memory : plan.break_start ≤ 0x7FFE_0000

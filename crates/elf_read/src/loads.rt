@@ -10,19 +10,22 @@ use crate::headers::read_program_header;
 use arrayvec::ArrayVec;
 use unix_model::{ElfFault, FileHeader, Load, MOST_LOADS, ProgramHeader};
 
-/// The types of program headers: a segment to load, the tables of a dynamic linker, and a dynamic linker's path.
+/// A segment to load, PT_LOAD.
 const LOAD: u32 = 1;
 
+/// The tables of a dynamic linker, PT_DYNAMIC.
 const DYNAMIC: u32 = 2;
 
+/// The path of a dynamic linker, PT_INTERP.
 const INTERPRETER: u32 = 3;
 
-/// The flag of a segment that the program may write to.
+/// The flag of a segment that the program may write to, PF_W.
 const WRITE: u32 = 2;
 
 /// The end of the memory in which loads lie.
 const LOADS_END: u64 = 0x7FFE_0000;
 
+/// The size of a page in bytes.
 const PAGE: u32 = 4096;
 
 /// Where a load ends in memory.

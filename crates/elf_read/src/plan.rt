@@ -12,6 +12,27 @@ use crate::loads::{break_start, read_loads};
 use arrayvec::ArrayVec;
 use unix_model::{ElfFault, FileHeader, Load};
 
+/// The class of 32-bit files, EI_CLASS.
+const CLASS_32: u8 = 1;
+
+/// The encoding with the lowest byte first, EI_DATA.
+const LOW_FIRST: u8 = 1;
+
+/// The version of ELF, EI_VERSION.
+const VERSION: u8 = 1;
+
+/// RISC-V, e_machine.
+const RISC_V: u16 = 243;
+
+/// An executable, e_type.
+const EXECUTABLE: u16 = 2;
+
+/// The size of a program header in bytes, e_phentsize.
+const HEADER_BYTES: u16 = 32;
+
+/// How many program headers are taken, at most.
+const MOST_HEADERS: u16 = 64;
+
 /// By what a file is loaded.
 #[derive(Drop)]
 pub struct ElfPlan {
@@ -32,16 +53,16 @@ fn checked_header(file_length: u32, header: FileHeader) -> Result<FileHeader, El
     if !header.magic {
         return Err(ElfFault::NotElf);
     }
-    if header.class != 1 || header.encoding != 1 || header.machine != 243 {
+    if header.class != CLASS_32 || header.encoding != LOW_FIRST || header.machine != RISC_V {
         return Err(ElfFault::NotRv32);
     }
-    if header.version != 1 || header.header_bytes != 32 || header.entry % 4 != 0 {
+    if header.version != VERSION || header.header_bytes != HEADER_BYTES || header.entry % 4 != 0 {
         return Err(ElfFault::BadHeader);
     }
-    if header.kind != 2 {
+    if header.kind != EXECUTABLE {
         return Err(ElfFault::NotStatic);
     }
-    if header.headers > 64 {
+    if header.headers > MOST_HEADERS {
         return Err(ElfFault::TooMany);
     }
     if u64::from(header.table) + 32 * u64::from(header.headers) > u64::from(file_length) {
@@ -62,17 +83,22 @@ fn read_checked_header<B: FileBytes>(file: &B) -> Result<FileHeader, ElfFault>
     checked_header(file_length, read_file_header(file))
 }
 
-/// The plan of a file, or why it has none.
+/// The plan of a file, or why it has none (System V gABI, ELF header and program header).
 ///
-/// The tests of the file header come first, in this order: Short where the file has fewer than 52 bytes; NotElf where
-/// the magic number is missing; NotRv32 where class, encoding or machine is another; BadHeader where the version isn't
-/// 1, program headers don't have 32 bytes or the entry is no multiple of 4; NotStatic where the file is no executable;
-/// TooMany where it has more than 64 program headers; Short where their table passes the file's end.
+/// The file header is tested first, in this order:
 ///
-/// Then the program headers are taken in order: NotStatic for PT_DYNAMIC and PT_INTERP, and of those PT_LOAD headers
-/// that have memory TooMany for one more than a plan may have, and BadSegment where it has more bytes in the file than in
-/// memory, passes the end of the file or of the memory for loads, or overlaps an earlier load. BadSegment too where no
-/// load remains. Whatever else the headers say is passed over.
+/// - Short: the file has fewer than 52 bytes.
+/// - NotElf: the magic number is missing.
+/// - NotRv32: class, encoding or machine is another.
+/// - BadHeader: the version isn't 1, a program header hasn't 32 bytes, or the entry is no multiple of 4.
+/// - NotStatic: the file is no executable.
+/// - TooMany: there are more than 64 program headers.
+/// - Short: the table of program headers passes the file's end.
+///
+/// Then the program headers are taken in order. PT_DYNAMIC and PT_INTERP are NotStatic, and a header that isn't PT_LOAD
+/// or has no bytes in memory is passed over. A load is TooMany where the plan has as many as it may have. It is BadSegment
+/// where it has more bytes in the file than in memory, passes the end of the file or of user memory, or overlaps an
+/// earlier load. BadSegment is also the answer where no load remains. All else that the headers say is ignored.
 pub fn read<B: FileBytes>(file: &B) -> Result<ElfPlan, ElfFault>
     ensures plan { shown_answer result ≡ plan_of (B.bytes file.now) }
     ensures sound { IfOk result (λ plan. IsSound (length (B.bytes file.now)) (shown_plan plan)) }

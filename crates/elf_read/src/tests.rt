@@ -16,9 +16,9 @@ const PROGRAM: [u8; 128] = [
     0x01, 0x00, 0x00, 0x00, 0x13, 0x05, 0x70, 0x00, 0x93, 0x08, 0x10, 0x00, 0x73, 0x00, 0x00, 0x00,
 ];
 
-/// What `ld.lld -N -s` (LLD 14) makes of a program with the sections `.text`, `.data` and `.bss`, assembled by clang for
-/// riscv32 with `-march=rv32if -mabi=ilp32f`: one load at 0x10074, a header of type PT_GNU_STACK, e_flags 2 and a
-/// table of sections.
+/// What a linker wrote: a program with the sections `.text`, `.data` and `.bss`, assembled by `clang -c
+/// --target=riscv32-unknown-elf -march=rv32if -mabi=ilp32f` and linked by `ld.lld -N -s`, both of LLVM 14. It has one
+/// load, a header of type PT_GNU_STACK, e_flags 2 and a table of sections. `llvm-readelf -hl` shows what its plan is.
 const LINKED: [u8; 444] = [
     0x7F, 0x45, 0x4C, 0x46, 0x01, 0x01, 0x01, 0x00, 0x00, 0x00, 0x00, 0x00, 0x00, 0x00, 0x00, 0x00,
     0x02, 0x00, 0xF3, 0x00, 0x01, 0x00, 0x00, 0x00, 0x74, 0x00, 0x01, 0x00, 0x34, 0x00, 0x00, 0x00,
