@@ -1,3 +1,5 @@
 pub mod SlotLaws
 pub mod SlotBounds
 pub mod TurnSteps
+pub mod ImageLaws
+pub mod MapLaws

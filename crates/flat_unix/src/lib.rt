@@ -6,6 +6,7 @@ mod description;
 mod execute;
 mod files;
 mod flat;
+mod image;
 mod inode;
 mod memory;
 mod page;

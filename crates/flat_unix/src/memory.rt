@@ -1,9 +1,9 @@
 //! Flat memory: pages by their numbers.
 
-ghost use Rattle.std.specs.Prelude.{◌≡◌, ℕ, ◌<◌, ◌≤◌, ◌+◌, ◌%◌, ◌^◌, IfOk, IfSome, option_map, vec_len};
+ghost use Rattle.std.specs.Prelude.{◌≡◌, ℕ, ◌<◌, ◌≤◌, ◌+◌, ◌%◌, ◌^◌, IfOk, IfSome, OnOk, Some, option_map, vec_len};
 ghost use Rattle.unix_model.specs.Memory.{byte_at, bytes_at, word_at};
-ghost use Rattle.unix_model.specs.Tables.{nothing};
-ghost use Rattle.flat_unix.specs.MemoryView.{memory_of};
+ghost use Rattle.unix_model.specs.Tables.{nothing, with_at};
+ghost use Rattle.flat_unix.specs.MemoryView.{memory_of, page_of};
 
 use crate::page::Page;
 use std::alloc::{AllocError, Global};
@@ -24,6 +24,15 @@ impl Memory {
         Memory {
             pages: BTreeMap::new(alloc),
         }
+    }
+
+    /// Maps a page at a number.
+    #[tactic(auto, unfolding(crate::specs::MemoryView::memory_of))]
+    pub fn map(&mut self, number: u32, page: Page) -> Result<(), AllocError>
+        ensures { OnOk result (memory_of self.new ≡ with_at (memory_of self.old) number (Some (page_of page))) }
+    {
+        self.pages.insert(number, page)?;
+        Ok(())
     }
 
     /// The byte at an address, or None where it isn't mapped.
