@@ -3,3 +3,4 @@ pub mod TableLaws
 pub mod MemoryLaws
 pub mod EnterLaws
 pub mod TurnLaws
+pub mod RoomLaws
