@@ -84,3 +84,10 @@ unfolding changed_below at
 changed_below-all f table n beyond = fun_ext (λ k. changed_all_at f table n k beyond)
 
 pub ruleset slots = (table-set, table-none, changed_below-zero, changed_below-step)
+
+-- mapping keeps the length
+pub length-mapped : {A B : Type 0} (f : A → B) (xs : List A) → length (map f xs) ≡ length xs
+length-mapped f [] = refl
+length-mapped f (x ∷ xs) = ap suc (length-mapped f xs)
+
+pub ruleset lengths = (length-mapped)

@@ -4,5 +4,6 @@ pub mod ProcessView
 pub mod SlotsView
 pub mod InodeView
 pub mod FilesView
+pub mod FreeNumber
 pub mod FlatView
 pub mod Steps

@@ -2,7 +2,9 @@
 
 ghost use Rattle.std.specs.Prelude.{◌≡◌, length};
 
+use crate::contents::Contents;
 use crate::description::Description;
+use crate::directory::{Directory, Entry};
 use crate::inode::Inode;
 use crate::places::free_places;
 use std::alloc::{AllocError, Global};
@@ -17,10 +19,11 @@ pub struct Files {
 }
 
 impl Files {
-    ghost use Rattle.std.specs.Prelude.{◌≡◌, ◌<◌, IfOk, IfSome, None, Some, option_map};
-    ghost use Rattle.unix_model.specs.Boot.{first_inodes};
+    ghost use Rattle.std.specs.Prelude.{◌≡◌, ◌<◌, ◌≤◌, IfOk, IfSome, None, Some, option_map};
+    ghost use Rattle.unix_model.specs.Boot.{first_inodes, free_inode};
     ghost use Rattle.unix_model.specs.Files as model;
-    ghost use Rattle.unix_model.specs.Tables.{at, with_at, nothing};
+    ghost use Rattle.unix_model.specs.Tables.{at, with_at, nothing, sum_below};
+    ghost use Rattle.flat_unix.specs.FreeNumber.{IsFreeNumber};
     ghost use Rattle.flat_unix.specs.FilesView.{files_of};
     ghost use Rattle.flat_unix.specs.InodeView.{inode_of, description_of};
 
@@ -31,7 +34,13 @@ impl Files {
     {
         let mut files = Files::nothing(alloc)?;
         files.set_inode(0, Inode::Console);
-        files.set_inode(1, Inode::Directory(1, Vec::new(alloc)));
+        files.set_inode(
+            1,
+            Inode::Directory(Directory {
+                parent: 1,
+                places: Vec::new(alloc),
+            }),
+        );
         Ok(files)
     }
 
@@ -184,5 +193,44 @@ impl Files {
             }
             None => {}
         }
+    }
+
+    /// The least free inode number, which isn't the console's or the root's.
+    #[tactic(auto, using(unix_model::proofs::TableLaws::steps), unfolding(unix_model::specs::Boot::free_inode))]
+    pub fn free_inode(&self) -> Option<u16>
+        ensures least { result ≡ free_inode (files_of self.now).inodes }
+        ensures free { IfSome result (IsFreeNumber (files_of self.now).inodes) }
+    {
+        let mut least = None;
+        for number in 0..1024u16 {
+            if least.is_none() && 2 <= number && self.inode(number).is_none() {
+                least = Some(number);
+            }
+        }
+        least
+    }
+
+    /// The pages that an inode promises.
+    fn inode_pages(&self, number: u16) -> u32
+        ensures pages { result ≡ model.inode_pages (at (files_of self.now).inodes number) }
+        ensures few { result ≤ 1024 }
+    {
+        match self.inode(number) {
+            Some(inode) => inode.pages(),
+            None => 0,
+        }
+    }
+
+    /// The pages that all inodes promise.
+    #[tactic(auto, using(unix_model::proofs::TableLaws::steps))]
+    pub fn pages(&self) -> u32
+        ensures pages { result ≡ sum_below (λ number. model.inode_pages (at (files_of self.now).inodes number)) 1024 }
+        ensures few { result ≤ 1048576 }
+    {
+        let mut pages = 0;
+        for number in 0..1024u16 {
+            pages += self.inode_pages(number);
+        }
+        pages
     }
 }

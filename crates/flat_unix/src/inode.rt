@@ -1,36 +1,44 @@
-//! Inodes and the entries of directories.
+//! Inodes.
 
-ghost use Rattle.std.specs.Prelude.{◌≡◌, Some};
+ghost use Rattle.std.specs.Prelude.{◌≡◌, ◌≤◌, Some};
 ghost use Rattle.std.specs.List.{list_any};
 ghost use Rattle.unix_model.specs.Files as model;
 ghost use Rattle.flat_unix.specs.InodeView.{inode_of, place_of};
 
-/// A name in a directory.
-#[derive(Drop)]
-pub struct Entry {
-    pub name: Vec<u8>,
-    pub inode: u16,
-}
+use crate::contents::Contents;
+use crate::directory::{Directory, Entry};
 
 /// What an inode number stands for.
 #[derive(Drop)]
 pub enum Inode {
-    File(Vec<u8>),
-    /// The parent's inode number, and the places, of which those without an entry are holes.
-    Directory(u16, Vec<Option<Entry>>),
+    File(Contents),
+    Directory(Directory),
     Console,
 }
 
 impl Inode {
-    #[tactic(auto, using(crate::proofs::SlotLaws::places))]
     /// Whether it is a directory with an entry of this inode.
+    #[tactic(auto, using(crate::proofs::SlotLaws::places))]
     pub(crate) fn names(&self, inode: u16) -> bool
         ensures { result ≡ model.directory_names inode (Some (inode_of self.now)) }
     {
         match self {
-            Inode::Directory(_, places) => any_names(places, inode),
+            Inode::Directory(directory) => any_names(&directory.places, inode),
             Inode::File(_) => false,
             Inode::Console => false,
+        }
+    }
+
+    /// The pages that it promises.
+    #[tactic(auto, using(crate::proofs::SlotLaws::lengths))]
+    pub(crate) fn pages(&self) -> u32
+        ensures pages { result ≡ model.inode_pages (Some (inode_of self.now)) }
+        ensures few { result ≤ 1024 }
+    {
+        match self {
+            Inode::File(contents) => contents.bytes.len().div_ceil(4096) as u32,
+            Inode::Directory(directory) => (32 * directory.places.len()).div_ceil(4096) as u32,
+            Inode::Console => 0,
         }
     }
 }

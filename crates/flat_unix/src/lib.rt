@@ -1,8 +1,10 @@
 //! A plain Unix machine over std's ordered maps: the flat Unix machine of the definitions, run as it is written there.
 #![tactic(auto)]
 
+mod contents;
 mod decode;
 mod description;
+mod directory;
 mod execute;
 mod files;
 mod flat;
@@ -15,10 +17,12 @@ mod process;
 mod request;
 mod slots;
 
+pub use contents::Contents;
 pub use description::Description;
+pub use directory::{Directory, Entry};
 pub use files::Files;
 pub use flat::{Flat, FlatFault};
-pub use inode::{Entry, Inode};
+pub use inode::Inode;
 pub use memory::Memory;
 pub use page::Page;
 pub use process::{Phase, Process};
