@@ -1,5 +1,5 @@
 -- The first program's stack, computed.
-use Rattle.std.proofs.Common.{◌≡◌, refl, sym, List, ℕ, ◌+◌, ◌<◌, [], ◌∷◌, length, take, get_or, Bool, Option, Some, None, arith, inl, inr, true, false, ◌⊎◌, ◌≤◌}
+use Rattle.std.proofs.Common.{◌≡◌, refl, sym, List, ℕ, ◌+◌, ◌<◌, [], ◌∷◌, length, take, get_or, Bool, Option, None, arith, inl, inr, true, false, ◌⊎◌, ◌≤◌}
 use Rattle.std.proofs.Math.Bool.{or_assoc, or-false, and-false}
 use Rattle.std.proofs.Math.Path.{fun_ext}
 use Rattle.std.proofs.lemmas.Bool.{le-ltb, lt-ltb, ltb-false}
@@ -9,7 +9,7 @@ use Rattle.std.proofs.lemmas.List.Folds.{list_any-append, list_any_none}
 use Rattle.std.specs.List.{list_any}
 use Rattle.elf_read.specs.Accepted.{IsLoadable}
 use Rattle.std.specs.List.{All}
-use Rattle.std.specs.Prelude.{◌||◌, ◌&&◌, ◌==◌, ◌*◌, ◌^◌, nat_lt, nat_le, if◌then◌else◌}
+use Rattle.std.specs.Prelude.{◌||◌, ◌==◌, ◌*◌, ◌^◌, nat_lt, nat_le, if◌then◌else◌}
 use Rattle.unix_model.specs.declared.elf.Load.{Load}
 use Rattle.unix_model.specs.Boot.{init_arguments}
 use Rattle.unix_model.specs.Loading.{image, touches, stack_bytes, stack_pointer, stack_end, strings_start, argument_words}
@@ -31,7 +31,7 @@ pub any_load-step : (before : Bool) (test : Load → Bool) (loads : List Load) (
     → (before || list_any test (take (i + 1) loads)) ≡ ((before || list_any test (take i loads)) || test (get_or loads i d))
 any_load-step before test loads i d inside =
     rw (take_more loads i d inside, list_any-append test (take i loads) (get_or loads i d ∷ []), or-false (test (get_or loads i d)))
-        (sym (or_assoc before (list_any test (take i loads)) (test (get_or loads i d))))
+    (sym (or_assoc before (list_any test (take i loads)) (test (get_or loads i d))))
 
 -- none of no load
 pub any_load-none : (before : Bool) (test : Load → Bool) (loads : List Load) → (before || list_any test (take 0 loads)) ≡ before

@@ -3,3 +3,4 @@ pub mod SlotBounds
 pub mod TurnSteps
 pub mod ImageLaws
 pub mod MapLaws
+pub mod DirectoryLaws

@@ -1,11 +1,10 @@
 -- A page mapped in a map of pages.
-use Rattle.std.proofs.Common.{◌≡◌, ◌≢◌, ℕ, Option, Some, None, arith, refl, sym, ap, ◌∙◌, inl, inr, false}
+use Rattle.std.proofs.Common.{◌≡◌, ◌≢◌, ℕ, Some, arith, ap, inl, inr, false}
 use Rattle.std.proofs.Math.Path.{fun_ext}
 use Rattle.std.proofs.lemmas.Bool.Decides.{eqb_tells, nat_tests}
 use Rattle.std.specs.BTreeMap.{BTreeMap, get, Updates, is_at}
 use Rattle.std.specs.Ordering.{nat_cmp}
 use Rattle.std.specs.Prelude.{option_map, ◌==◌, if◌then◌else◌}
-use Rattle.unix_model.specs.Memory as model
 use Rattle.unix_model.specs.Tables.{with_at}
 use Rattle.flat_unix.specs.declared.page.Page.{Page}
 use Rattle.flat_unix.specs.MemoryView.{page_of}

@@ -2,8 +2,10 @@ pub mod Fields
 pub mod MemoryView
 pub mod ProcessView
 pub mod SlotsView
+pub mod EntryView
 pub mod InodeView
 pub mod FilesView
 pub mod FreeNumber
 pub mod FlatView
 pub mod Steps
+pub mod Boots

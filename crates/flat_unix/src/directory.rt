@@ -2,14 +2,8 @@
 
 ghost use Rattle.std.specs.Prelude.{◌≤◌, length};
 
+use crate::entry::{Entry, inode_named};
 use std::alloc::AllocError;
-
-/// A name in a directory.
-#[derive(Drop)]
-pub struct Entry {
-    pub name: Vec<u8>,
-    pub inode: u16,
-}
 
 /// A directory: the inode number of its parent, and at most 1,024 places, of which those without an entry are holes.
 #[derive(Drop)]
@@ -20,7 +14,9 @@ pub struct Directory {
 }
 
 impl Directory {
-    ghost use Rattle.std.specs.Prelude.{◌≡◌, ◌<◌, ◌++◌, ◌∷◌, [], IfOk, Some, vec_len};
+    ghost use Rattle.std.specs.Prelude.{◌≡◌, ◌<◌, ◌++◌, ◌∷◌, [], IfOk, Some, map, vec_len};
+    ghost use Rattle.unix_model.specs.Boot.{inode_named};
+    ghost use Rattle.flat_unix.specs.EntryView.{place_of};
 
     /// The directory with an entry at its end.
     pub fn with_entry(mut self, entry: Entry) -> Result<Directory, AllocError>
@@ -29,5 +25,12 @@ impl Directory {
     {
         self.places.push(Some(entry))?;
         Ok(self)
+    }
+
+    /// The inode of the first place with this name.
+    pub fn inode_named(&self, name: &[u8]) -> Option<u16>
+        ensures { result ≡ inode_named (map place_of self.now.places.items) name.now }
+    {
+        inode_named(&self.places, name)
     }
 }

@@ -2,12 +2,13 @@
 
 ghost use Rattle.std.specs.Prelude.{◌≡◌, length};
 
-use crate::contents::Contents;
 use crate::description::Description;
-use crate::directory::{Directory, Entry};
+use crate::directory::Directory;
+use crate::entry::Entry;
 use crate::inode::Inode;
 use crate::places::free_places;
 use std::alloc::{AllocError, Global};
+use std::mem;
 
 /// The inodes and the open descriptions by their numbers.
 #[derive(Drop)]
@@ -19,12 +20,13 @@ pub struct Files {
 }
 
 impl Files {
-    ghost use Rattle.std.specs.Prelude.{◌≡◌, ◌<◌, ◌≤◌, IfOk, IfSome, None, Some, option_map};
-    ghost use Rattle.unix_model.specs.Boot.{first_inodes, free_inode};
+    ghost use Rattle.std.specs.Prelude.{◌≡◌, ◌<◌, ◌≤◌, IfOk, IfSome, OnOk, None, Some, length, option_map};
+    ghost use Rattle.unix_model.specs.Boot.{file_named, first_inodes, free_inode, places_of, with_description, with_entry, with_root_entry};
     ghost use Rattle.unix_model.specs.Files as model;
     ghost use Rattle.unix_model.specs.Tables.{at, with_at, nothing, sum_below};
     ghost use Rattle.flat_unix.specs.FreeNumber.{IsFreeNumber};
     ghost use Rattle.flat_unix.specs.FilesView.{files_of};
+    ghost use Rattle.flat_unix.specs.EntryView.{entry_of};
     ghost use Rattle.flat_unix.specs.InodeView.{inode_of, description_of};
 
     /// The console and the empty root, and no description.
@@ -232,5 +234,89 @@ impl Files {
             pages += self.inode_pages(number);
         }
         pages
+    }
+
+    /// The places of the root.
+    pub fn root_places(&self) -> usize
+        ensures { result ≡ length (places_of (at (files_of self.now).inodes 1)) }
+    {
+        match self.inode(1) {
+            Some(inode) => inode.places(),
+            None => 0,
+        }
+    }
+
+    /// The pages of the root, and those that it has with an entry more.
+    pub fn root_pages(&self) -> u32
+        ensures pages { result ≡ model.inode_pages (at (files_of self.now).inodes 1) }
+        ensures few { result ≤ 1024 }
+    {
+        self.inode_pages(1)
+    }
+
+    /// The pages that the root has with an entry more.
+    pub fn root_pages_with_entry(&self) -> u32
+        ensures pages { (entry : model.Entry) → result ≡ model.inode_pages (with_entry (at (files_of self.now).inodes 1) entry) }
+        ensures few { result ≤ 1025 }
+    {
+        match self.inode(1) {
+            Some(inode) => inode.pages_with_entry(),
+            None => 0,
+        }
+    }
+
+    /// Adds an entry to the root.
+    #[tactic(auto, using(unix_model::proofs::TableLaws::tables, crate::proofs::SlotLaws::lengths))]
+    pub fn add_root_entry(&mut self, entry: Entry) -> Result<(), AllocError>
+        requires { length (places_of (at (files_of self.old).inodes 1)) < 1024 }
+        ensures { OnOk result (files_of self.new ≡ record (files_of self.old) { inodes = with_root_entry (files_of self.old).inodes (entry_of entry) }) }
+    {
+        match self.take_inode(1) {
+            Some(inode) => {
+                let inode = inode.with_entry(entry)?;
+                self.set_inode(1, inode);
+            }
+            None => {}
+        }
+        Ok(())
+    }
+
+    /// Takes the inode out of a number.
+    #[tactic(auto, using(crate::proofs::SlotLaws::slots), unfolding(crate::specs::FilesView::files_of, unix_model::specs::Tables::at))]
+    fn take_inode(&mut self, number: u16) -> Option<Inode>
+        requires { number < 1024 }
+        ensures taken { option_map inode_of result ≡ at (files_of self.old).inodes number }
+        ensures free { files_of self.new ≡ record (files_of self.old) { inodes = with_at (files_of self.old).inodes number None } }
+    {
+        mem::replace(&mut self.inodes[number as usize], None)
+    }
+
+    /// The bytes of the file of this name in the root.
+    #[tactic(auto, unfolding(unix_model::specs::Boot::file_named))]
+    pub fn file_named(&self, name: &[u8]) -> Option<&[u8]>
+        ensures bytes { option_map (λ bytes. bytes.now) result ≡ file_named (files_of self.now) name.now }
+        ensures few { IfSome result (λ bytes. length bytes.now ≤ 4194304) }
+    {
+        let root = match self.inode(1) {
+            Some(root) => root,
+            None => return None,
+        };
+        let number = match root.inode_named(name) {
+            Some(number) => number,
+            None => return None,
+        };
+        match self.inode(number) {
+            Some(inode) => inode.bytes(),
+            None => None,
+        }
+    }
+
+    /// Opens a description at a number.
+    #[tactic(auto, using(crate::proofs::SlotLaws::slots), unfolding(crate::specs::FilesView::files_of))]
+    pub fn set_description(&mut self, number: u16, description: Description)
+        requires { number < 2048 }
+        ensures { files_of self.new ≡ with_description (files_of self.old) number (description_of description) }
+    {
+        self.descriptions[number as usize] = Some(description);
     }
 }

@@ -7,12 +7,10 @@ ghost use Rattle.unix_model.specs.Loading.{image, image_byte, image_page, in_fil
 ghost use Rattle.unix_model.specs.Tables.{at, count_below, with_at};
 ghost use Rattle.flat_unix.specs.MemoryView.{memory_of, page_of};
 
-use std::alloc::{AllocError, Global};
-
-use elf_read::Load;
-
 use crate::memory::Memory;
 use crate::page::Page;
+use elf_read::Load;
+use std::alloc::{AllocError, Global};
 
 /// The stack pointer of a program that is started with the one argument `/init`.
 pub const STACK_POINTER: u32 = 0x7FFF_FFE0;
@@ -123,12 +121,7 @@ fn page_writable(file: &[u8], loads: &[Load], page: u32) -> bool
 
 /// A page of the memory.
 #[tactic(auto, using(unix_model::proofs::TableLaws::steps))]
-fn image_page(
-    alloc: Global,
-    file: &[u8],
-    loads: &[Load],
-    page: u32,
-) -> Result<Page, AllocError>
+fn image_page(alloc: Global, file: &[u8], loads: &[Load], page: u32) -> Result<Page, AllocError>
     requires loads { All (IsLoadable (length file.now)) loads.now }
     requires page { page < 2 ^ 19 }
     ensures { IfOk result (λ made. page_of made ≡ image_page file.now loads.now init_arguments page) }

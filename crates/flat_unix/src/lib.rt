@@ -1,10 +1,12 @@
 //! A plain Unix machine over std's ordered maps: the flat Unix machine of the definitions, run as it is written there.
 #![tactic(auto)]
 
+mod boot;
 mod contents;
 mod decode;
 mod description;
 mod directory;
+mod entry;
 mod execute;
 mod files;
 mod flat;
@@ -19,7 +21,8 @@ mod slots;
 
 pub use contents::Contents;
 pub use description::Description;
-pub use directory::{Directory, Entry};
+pub use directory::Directory;
+pub use entry::Entry;
 pub use files::Files;
 pub use flat::{Flat, FlatFault};
 pub use inode::Inode;

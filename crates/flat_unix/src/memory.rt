@@ -1,8 +1,8 @@
 //! Flat memory: pages by their numbers.
 
-ghost use Rattle.std.specs.Prelude.{◌≡◌, ℕ, ◌<◌, ◌≤◌, ◌+◌, ◌%◌, ◌^◌, IfOk, IfSome, OnOk, Some, option_map, vec_len};
-ghost use Rattle.unix_model.specs.Memory.{byte_at, bytes_at, word_at};
-ghost use Rattle.unix_model.specs.Tables.{nothing, with_at};
+ghost use Rattle.std.specs.Prelude.{◌≡◌, ℕ, ◌<◌, ◌≤◌, ◌+◌, ◌%◌, ◌^◌, IfOk, IfSome, OnOk, Some, is_some, option_map, vec_len};
+ghost use Rattle.unix_model.specs.Memory.{byte_at, bytes_at, mapped_pages, word_at};
+ghost use Rattle.unix_model.specs.Tables.{at, nothing, with_at};
 ghost use Rattle.flat_unix.specs.MemoryView.{memory_of, page_of};
 
 use crate::page::Page;
@@ -24,6 +24,29 @@ impl Memory {
         Memory {
             pages: BTreeMap::new(alloc),
         }
+    }
+
+    /// How many pages are mapped.
+    #[tactic(auto, using(unix_model::proofs::TableLaws::steps), unfolding(unix_model::specs::Memory::mapped_pages))]
+    pub fn mapped(&self) -> u32
+        ensures mapped { result ≡ mapped_pages (memory_of self.now) }
+        ensures few { result ≤ 2 ^ 19 }
+    {
+        let mut mapped = 0;
+        for number in 0..0x8_0000u32 {
+            if self.has(number) {
+                mapped += 1;
+            }
+        }
+        mapped
+    }
+
+    /// Whether a page is mapped.
+    #[tactic(auto, unfolding(crate::specs::MemoryView::memory_of, unix_model::specs::Tables::at))]
+    fn has(&self, number: u32) -> bool
+        ensures { result ≡ is_some (at (memory_of self.now) number) }
+    {
+        self.pages.contains_key(&number)
     }
 
     /// Maps a page at a number.

@@ -1,10 +1,11 @@
 //! A process, and the steps that it makes by itself.
 
-ghost use Rattle.std.specs.Prelude.{◌≡◌, ◌<◌, [], IfSome};
+ghost use Rattle.std.specs.Prelude.{◌≡◌, ◌<◌, ◌≤◌, ◌^◌, [], IfSome};
 ghost use Rattle.unix_model.specs.Process as model;
 ghost use Rattle.unix_model.specs.Enter.{argument};
 ghost use Rattle.unix_model.specs.Turn.{ran, returned, lowest_open, signal_of, phase_after as phase_after_outcome};
 ghost use Rattle.std.specs.List.{list_any};
+ghost use Rattle.unix_model.specs.Room.{live_pages};
 ghost use Rattle.unix_model.specs.State.{adopted, names_description, phase_word};
 ghost use Rattle.flat_unix.specs.ProcessView.{process_of, phase_of};
 
@@ -169,6 +170,17 @@ impl Process {
         match self.phase {
             Phase::Zombie(word) => Some(word),
             _ => None,
+        }
+    }
+
+    /// The pages that it promises.
+    pub fn pages(&self) -> u32
+        ensures pages { result ≡ live_pages (process_of self.now) (process_of self.now).phase }
+        ensures few { result ≤ 2 ^ 20 }
+    {
+        match self.phase {
+            Phase::Zombie(_) => 0,
+            _ => self.memory.mapped() + 1,
         }
     }
 }

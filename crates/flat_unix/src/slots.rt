@@ -14,9 +14,10 @@ pub struct Slots {
 }
 
 impl Slots {
-    ghost use Rattle.std.specs.Prelude.{◌≡◌, ◌<◌, IfOk, None, Some, option_map};
+    ghost use Rattle.std.specs.Prelude.{◌≡◌, ◌<◌, ◌≤◌, ◌^◌, IfOk, None, Some, option_map};
     ghost use Rattle.unix_model.specs.State.{adopted, has_descriptor, process_names, process_word};
-    ghost use Rattle.unix_model.specs.Tables.{at, with_at, nothing};
+    ghost use Rattle.unix_model.specs.Tables.{at, with_at, nothing, sum_below};
+    ghost use Rattle.unix_model.specs.Room.{process_pages};
     ghost use Rattle.flat_unix.specs.ProcessView.{process_of};
     ghost use Rattle.flat_unix.specs.SlotsView.{slots_of};
 
@@ -111,5 +112,30 @@ impl Slots {
             Some(process) => process.word(),
             None => None,
         }
+    }
+
+    /// The pages that the process of a slot promises.
+    pub fn slot_pages(&self, slot: u8) -> u32
+        requires { slot < 64 }
+        ensures pages { result ≡ process_pages (at (slots_of self.now) slot) }
+        ensures few { result ≤ 2 ^ 20 }
+    {
+        match self.get(slot) {
+            Some(process) => process.pages(),
+            None => 0,
+        }
+    }
+
+    /// The pages that all processes promise.
+    #[tactic(auto, using(unix_model::proofs::TableLaws::steps))]
+    pub fn pages(&self) -> u32
+        ensures pages { result ≡ sum_below (λ slot. process_pages (at (slots_of self.now) slot)) 64 }
+        ensures few { result ≤ 2 ^ 26 }
+    {
+        let mut pages = 0;
+        for slot in 0..64u8 {
+            pages += self.slot_pages(slot);
+        }
+        pages
     }
 }

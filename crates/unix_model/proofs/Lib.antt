@@ -4,3 +4,4 @@ pub mod MemoryLaws
 pub mod EnterLaws
 pub mod TurnLaws
 pub mod RoomLaws
+pub mod BootLaws

@@ -1,5 +1,5 @@
 -- What a change promises: sums over a table with one place changed.
-use Rattle.std.proofs.Common.{◌≡◌, ◌≢◌, ℕ, zero, suc, ◌+◌, ◌<◌, ◌≤◌, ◌^◌, Option, Some, None, Bool, true, false, List, arith, refl, sym, ap, ◌∙◌, inl, inr, length}
+use Rattle.std.proofs.Common.{◌≡◌, ◌≢◌, ℕ, zero, suc, ◌+◌, ◌<◌, ◌≤◌, ◌^◌, Option, Some, None, Bool, true, false, List, arith, refl, ap, ◌∙◌, inl, inr, length}
 use Rattle.std.proofs.Math.Path.{fun_ext}
 use Rattle.std.proofs.lemmas.Bool.Decides.{eqb_tells}
 use Rattle.std.specs.Prelude.{is_some, if◌then◌else◌}
@@ -8,7 +8,7 @@ use Rattle.unix_model.specs.Elf.{LoadPlan}
 use Rattle.unix_model.specs.declared.elf.Load.{Load}
 use Rattle.unix_model.specs.Files.{Inode, File, Entry, inode_pages}
 use Rattle.unix_model.specs.Loading.{image, image_page, page_mapped}
-use Rattle.unix_model.specs.Memory.{Memory, Page, mapped_pages}
+use Rattle.unix_model.specs.Memory.{Page, mapped_pages}
 use Rattle.unix_model.specs.Numbers.{pages_of}
 use Rattle.unix_model.specs.Room.{promised, process_pages}
 use Rattle.unix_model.specs.State.{Unix}
@@ -53,7 +53,7 @@ pub mapped_pages-image : (file : List ℕ) (loads : List Load) (strings : List (
 unfolding mapped_pages image at
 mapped_pages-image file loads strings =
     let same : (λ n. is_some (if page_mapped loads n then Some (image_page file loads strings n) else None)) ≡ page_mapped loads =
-        fun_ext (λ n. mapped_test (page_mapped loads n) (image_page file loads strings n)) in
+    fun_ext (λ n. mapped_test (page_mapped loads n) (image_page file loads strings n)) in
     ap (λ test. count_below test (2 ^ 19)) same
 
 -- what a started machine promises
@@ -66,7 +66,7 @@ promised-started unix file plan =
 -- what a machine promises after a file was stored
 pub promised-stored : (unix : Unix) (name bytes : List ℕ) (number : ℕ) → 2 ≤ number → number < 1024 → at unix.files.inodes number ≡ None
     → promised (with_file unix name bytes number) + inode_pages (at unix.files.inodes 1)
-        ≡ promised unix + pages_of (length bytes) + inode_pages (with_entry (at unix.files.inodes 1) (record { name = name; inode = number }))
+    ≡ promised unix + pages_of (length bytes) + inode_pages (with_entry (at unix.files.inodes 1) (record { name = name; inode = number }))
 unfolding promised
 promised-stored unix name bytes number above below free =
     let Inodes : Type 0 = ℕ → Option Inode in
@@ -81,5 +81,5 @@ promised-stored unix name bytes number above below free =
       sum-with_at inode_pages filed 1 (with_entry (at filed 1) entry) 1024 (omega arith),
       nothing_there,
       ap inode_pages root,
-      ap (λ found. inode_pages (with_entry found entry)) root
+      ap (λ found. inode_pages (with_entry found entry)) root,
     )

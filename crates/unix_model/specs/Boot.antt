@@ -135,10 +135,14 @@ first_process file plan =
       phase = Run;
     }
 
+-- the machine with its first process in slot 0, the console open as description 0, and 2 as the next process id
+abbrev pub with_first_process : Unix → Process → Unix
+with_first_process unix process =
+    with_process (record unix { files = with_description unix.files 0 console_description; next_pid = 2 }) 0 process
+
 -- the machine with process 1 in slot 0
 abbrev pub started : Unix → List ℕ → LoadPlan → Unix
-started unix file plan =
-    with_process (record unix { files = with_description unix.files 0 console_description; next_pid = 2 }) 0 (first_process file plan)
+started unix file plan = with_first_process unix (first_process file plan)
 
 -- why an input isn't booted
 pub data Refusal : Type 0 where

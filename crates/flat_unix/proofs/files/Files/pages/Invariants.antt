@@ -7,5 +7,5 @@ use Rattle.flat_unix.proofs.files.Files.pages.Given as goal
 abbrev pub invariant-loop-number : goal.invariant-loop-number
 invariant-loop-number l = record {
   pages : l.pages ≡ sum_below (λ number. inode_pages (at (files_of l.self).inodes number)) l.number;
-  few : l.pages ≤ 1024 * l.number
+  few : l.pages ≤ 1024 * l.number;
 }
