@@ -5,3 +5,4 @@ pub mod EnterLaws
 pub mod TurnLaws
 pub mod RoomLaws
 pub mod BootLaws
+pub mod RunLaws
