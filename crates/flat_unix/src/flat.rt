@@ -53,6 +53,7 @@ impl Flat {
     ghost use Rattle.unix_model.specs.Effect.{goes_on, write_answer};
     ghost use Rattle.unix_model.specs.Enter.{entered, write_enters, can_write};
     ghost use Rattle.unix_model.specs.Process.{descriptor};
+    ghost use Rattle.unix_model.specs.Schedule.{Round, next_slot};
     ghost use Rattle.unix_model.specs.State.{halted_with, with_process, with_description_released};
     ghost use Rattle.unix_model.specs.Turn.{turned, turned_in, exit_step, with_descriptor_closed, lowest_open, ticked, MakesTurn};
     ghost use Rattle.flat_unix.specs.FlatView.{unix_of};
@@ -74,6 +75,14 @@ impl Flat {
         ensures { result ≡ (unix_of self.now).position }
     {
         self.position
+    }
+
+    /// The slot whose turn it is where the turns go round.
+    pub fn round_slot(&self) -> u8
+        ensures slot { result ≡ next_slot (unix_of self.now) Round }
+        ensures below { result < 64 }
+    {
+        (self.position / self.quantum) as u8
     }
 
     /// The position goes on with every turn.

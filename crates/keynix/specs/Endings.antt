@@ -1,0 +1,58 @@
+-- Endings in the words of the definitions.
+use Rattle.std.specs.Prelude.{◌≡◌, ℕ, List, [], Option, Some, Result, Ok, Err}
+use Rattle.flat_unix.specs.declared.flat.FlatFault.{FlatFault}
+use Rattle.flat_unix.specs.declared.flat.FlatFault.TheVariants as flat
+use Rattle.kn_io.specs.Sink.{GrewByPrefix}
+use Rattle.unix_model.specs.Boot as model
+use Rattle.unix_model.specs.Machine as machine
+use Rattle.unix_model.specs.Schedule.{Round, unix_run}
+use Rattle.unix_model.specs.State.{Unix}
+use Rattle.keynix.specs.declared.ending.Ending.{Ending}
+use Rattle.keynix.specs.declared.ending.Ending.TheVariants.{Halted, TurnsSpent, Usage, Refused, ReadFault, WriteFault, NoMemory}
+use Rattle.keynix.specs.declared.ending.Refusal.{Refusal}
+use Rattle.keynix.specs.declared.ending.Refusal.TheVariants.{NotBuilt, NoRoom, Elf}
+
+-- the refusal of the definitions
+abbrev pub refusal_view : Refusal → model.Refusal
+refusal_view NotBuilt = model.NotBuilt
+refusal_view NoRoom = model.NoRoom
+refusal_view (Elf fault) = model.Elf fault
+
+-- the ending of a turn that failed
+abbrev pub fault_ending : FlatFault → Ending
+fault_ending flat.ReadFault = ReadFault
+fault_ending flat.WriteFault = WriteFault
+fault_ending flat.NoMemory = NoMemory
+fault_ending flat.NoRoom = Refused NoRoom
+fault_ending (flat.Elf fault) = Refused (Elf fault)
+
+-- an ending by a fault comes only with its cause
+abbrev pub IsCaused : Type 0 → Type 0 → Ending → Type 0
+IsCaused read write ReadFault = read
+IsCaused read write WriteFault = write
+IsCaused read write (Halted word) = Unit {0}
+IsCaused read write (TurnsSpent turns) = Unit {0}
+IsCaused read write Usage = Unit {0}
+IsCaused read write (Refused refusal) = Unit {0}
+IsCaused read write NoMemory = Unit {0}
+
+-- a run was made whole: why it ended, and how often the machine turned; the output got the bytes that it puts, and
+-- nothing is left of the input
+pub record RunsWhole {S K : Type 0} (turns : ℕ) (unix : Unix) (left : S → Option (List ℕ)) (grew : K → List ℕ → K → Type 0) (source : S) (old new : K) (stop : machine.Stop) : Type 0 where
+  pub stop_is : (unix_run turns unix Round []).stop ≡ stop
+  pub output_grew : grew old (unix_run turns unix Round []).put new
+  pub input_ended : left source ≡ Some []
+
+-- a run that was cut short: the output got a front of the bytes that it puts
+abbrev pub PutsPart : {K : Type 0} → ℕ → Unix → (K → List ℕ → K → Type 0) → K → K → Type 0
+PutsPart turns unix grew old new = GrewByPrefix grew old (unix_run turns unix Round []).put new
+
+-- the ending of a run from a state
+abbrev pub RunsOn : {S K : Type 0} → ℕ → Unix → (S → Option (List ℕ)) → (K → List ℕ → K → Type 0) → S → K → K → Ending → Type 0
+RunsOn turns unix left grew source old new (Halted word) = RunsWhole turns unix left grew source old new (machine.Halted word)
+RunsOn turns unix left grew source old new (TurnsSpent made) = RunsWhole turns unix left grew source old new machine.Going × ((unix_run turns unix Round []).turns ≡ made)
+RunsOn turns unix left grew source old new ReadFault = PutsPart turns unix grew old new
+RunsOn turns unix left grew source old new WriteFault = PutsPart turns unix grew old new
+RunsOn turns unix left grew source old new NoMemory = PutsPart turns unix grew old new
+RunsOn turns unix left grew source old new Usage = ⊥
+RunsOn turns unix left grew source old new (Refused refusal) = ⊥

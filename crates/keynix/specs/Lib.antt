@@ -1,0 +1,2 @@
+pub mod WordsView
+pub mod Endings

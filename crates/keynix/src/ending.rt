@@ -1,0 +1,33 @@
+//! How a command ended.
+
+use elf_read::ElfFault;
+
+/// Why an input isn't booted.
+#[derive(Clone, Copy, Debug, PartialEq, Eq)]
+pub enum Refusal {
+    /// It is no ELF file, and nothing else can be booted yet.
+    NotBuilt,
+    /// The machine has no room for it.
+    NoRoom,
+    /// It is an ELF file that this machine doesn't run.
+    Elf(ElfFault),
+}
+
+/// How a command ended.
+#[derive(Clone, Copy, Debug, PartialEq, Eq)]
+pub enum Ending {
+    /// The machine halted, with the wait word of process 1.
+    Halted(u32),
+    /// All turns were made, so many.
+    TurnsSpent(u64),
+    /// The words are no command.
+    Usage,
+    /// The input was refused.
+    Refused(Refusal),
+    /// A call of the input failed.
+    ReadFault,
+    /// A call of the output failed.
+    WriteFault,
+    /// Host memory ran out.
+    NoMemory,
+}

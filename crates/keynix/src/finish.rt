@@ -1,0 +1,1 @@
+//! The note and the status of an ending.
