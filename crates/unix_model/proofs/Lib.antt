@@ -5,4 +5,5 @@ pub mod EnterLaws
 pub mod TurnLaws
 pub mod RoomLaws
 pub mod BootLaws
+pub mod StoredLaws
 pub mod RunLaws

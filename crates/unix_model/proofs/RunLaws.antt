@@ -1,8 +1,7 @@
 -- A run of the Unix machine in the round, one turn at a time: what was made so far, and the rest.
-use Rattle.std.proofs.Common.{◌≡◌, ℕ, zero, suc, ◌+◌, List, [], ◌++◌, Option, Some, None, Bool, true, false, arith, refl, sym, ap, ◌∙◌, append_assoc, add_assoc, zero-add}
-use Rattle.unix_model.specs.Machine.{Run, Step, Stop, Halted, PlanDone, Going, ended, one_turn, followed_by, stop_by, run_on, stop_or_going, run}
+use Rattle.std.proofs.Common.{◌≡◌, ℕ, zero, suc, ◌+◌, List, [], ◌++◌, Option, Some, None, false, arith, refl, sym, ap, ◌∙◌, append_assoc, zero-add}
+use Rattle.unix_model.specs.Machine.{Run, Step, Halted, Going, ended, one_turn, followed_by, stop_by, run_on, stop_or_going, run}
 use Rattle.unix_model.specs.Schedule.{Schedule, Round, next_slot, step_of, unix_machine, unix_run}
-use Rattle.unix_model.specs.Effect.{Turn}
 use Rattle.unix_model.specs.State.{Unix, halted_with}
 use Rattle.unix_model.specs.Tables.{at}
 use Rattle.unix_model.specs.Process.{Process}
@@ -42,7 +41,7 @@ unfolding unix_run run unix_machine
 run-halted zero unix input word halted = ap (λ found. ended unix Round input (stop_or_going (stop_by found false))) halted
 run-halted (suc n) unix input word halted =
     ap (λ found. run_on unix Round input (step_of (turned unix (next_slot unix Round) input) Round)
-        (run unix_machine n (turned unix (next_slot unix Round) input).state Round (turned unix (next_slot unix Round) input).left) (stop_by found false)) halted
+    (run unix_machine n (turned unix (next_slot unix Round) input).state Round (turned unix (next_slot unix Round) input).left) (stop_by found false)) halted
 
 -- no turn is left
 pub run-zero : (unix : Unix) (input : List ℕ) → halted_with unix ≡ None → unix_run 0 unix Round input ≡ ended unix Round input Going
@@ -52,12 +51,12 @@ run-zero unix input going = ap (λ found. ended unix Round input (stop_or_going 
 -- one turn, and the rest
 pub run-step : (n : ℕ) (unix : Unix) (input : List ℕ) → halted_with unix ≡ None
     → unix_run (suc n) unix Round input
-        ≡ followed_by (one_turn (step_of (turned unix (next_slot unix Round) input) Round))
-            (unix_run n (turned unix (next_slot unix Round) input).state Round (turned unix (next_slot unix Round) input).left)
+    ≡ followed_by (one_turn (step_of (turned unix (next_slot unix Round) input) Round))
+    (unix_run n (turned unix (next_slot unix Round) input).state Round (turned unix (next_slot unix Round) input).left)
 unfolding unix_run run unix_machine
 run-step n unix input going =
     ap (λ found. run_on unix Round input (step_of (turned unix (next_slot unix Round) input) Round)
-        (run unix_machine n (turned unix (next_slot unix Round) input).state Round (turned unix (next_slot unix Round) input).left) (stop_by found false)) going
+    (run unix_machine n (turned unix (next_slot unix Round) input).state Round (turned unix (next_slot unix Round) input).left) (stop_by found false)) going
 
 turned_at-leaves : (unix : Unix) (slot : ℕ) (bytes : List ℕ) (held : Option Process) → (turned_at unix slot bytes held).left ≡ bytes
 turned_at-leaves unix slot bytes None = refl
