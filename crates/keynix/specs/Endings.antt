@@ -1,5 +1,8 @@
 -- Endings in the words of the definitions.
-use Rattle.std.specs.Prelude.{◌≡◌, ℕ, List, [], Option, Some, Result, Ok, Err}
+use Rattle.std.specs.Prelude.{◌≡◌, ℕ, ◌<◌, false, List, [], length, slice_index, ◌==◌, Option, Some, Result, Ok, Err, Vec}
+use Rattle.std.specs.Global.{Global}
+use Rattle.flat_unix.specs.declared.flat.Flat.{Flat}
+use Rattle.flat_unix.specs.FlatView.{unix_of}
 use Rattle.flat_unix.specs.declared.flat.FlatFault.{FlatFault}
 use Rattle.flat_unix.specs.declared.flat.FlatFault.TheVariants as flat
 use Rattle.kn_io.specs.Sink.{GrewByPrefix}
@@ -32,7 +35,7 @@ IsCaused read write ReadFault = read
 IsCaused read write WriteFault = write
 IsCaused read write (Halted word) = Unit {0}
 IsCaused read write (TurnsSpent turns) = Unit {0}
-IsCaused read write Usage = Unit {0}
+IsCaused read write Usage = ⊥
 IsCaused read write (Refused refusal) = Unit {0}
 IsCaused read write NoMemory = Unit {0}
 
@@ -56,3 +59,42 @@ RunsOn turns unix left grew source old new WriteFault = PutsPart turns unix grew
 RunsOn turns unix left grew source old new NoMemory = PutsPart turns unix grew old new
 RunsOn turns unix left grew source old new Usage = ⊥
 RunsOn turns unix left grew source old new (Refused refusal) = ⊥
+
+-- the input is refused so, and nothing was put
+abbrev pub RefusesAs : {K : Type 0} → model.Refusal → K → K → Ending → Type 0
+RefusesAs refusal old new (Refused told) = (refusal ≡ refusal_view told) × (new ≡ old)
+RefusesAs refusal old new ReadFault = new ≡ old
+RefusesAs refusal old new NoMemory = new ≡ old
+RefusesAs refusal old new WriteFault = ⊥
+RefusesAs refusal old new (Halted word) = ⊥
+RefusesAs refusal old new (TurnsSpent turns) = ⊥
+RefusesAs refusal old new Usage = ⊥
+
+-- the ending of `once` by the boot of its input
+abbrev pub Ends : {S K : Type 0} → ℕ → Result Unix model.Refusal → (S → Option (List ℕ)) → (K → List ℕ → K → Type 0) → S → K → K → Ending → Type 0
+Ends turns (Ok unix) left grew source old new ending = RunsOn turns unix left grew source old new ending
+Ends turns (Err refusal) left grew source old new ending = RefusesAs refusal old new ending
+
+-- the file that was read, or why none was
+abbrev pub Reads : List ℕ → Option (List ℕ) → Result (Vec ℕ Global) Ending → Type 0
+Reads bytes left (Ok file) = (file.items ≡ bytes) × (slice_index bytes 0 ≡ 0x7F) × (left ≡ Some [])
+Reads bytes left (Err (Refused NotBuilt)) = (slice_index bytes 0 == 0x7F) ≡ false
+Reads bytes left (Err (Refused NoRoom)) = (slice_index bytes 0 ≡ 0x7F) × (4194304 < length bytes)
+Reads bytes left (Err (Refused (Elf fault))) = ⊥
+Reads bytes left (Err ReadFault) = Unit {0}
+Reads bytes left (Err NoMemory) = Unit {0}
+Reads bytes left (Err WriteFault) = ⊥
+Reads bytes left (Err (Halted word)) = ⊥
+Reads bytes left (Err (TurnsSpent turns)) = ⊥
+Reads bytes left (Err Usage) = ⊥
+
+-- the machine that was booted, or why none was
+abbrev pub Boots : Result Unix model.Refusal → Result Flat Ending → Type 0
+Boots booted (Ok flat) = booted ≡ Ok (unix_of flat)
+Boots booted (Err (Refused refusal)) = booted ≡ Err (refusal_view refusal)
+Boots booted (Err NoMemory) = Unit {0}
+Boots booted (Err ReadFault) = ⊥
+Boots booted (Err WriteFault) = ⊥
+Boots booted (Err (Halted word)) = ⊥
+Boots booted (Err (TurnsSpent turns)) = ⊥
+Boots booted (Err Usage) = ⊥

@@ -1,2 +1,3 @@
 pub mod WordsView
 pub mod Endings
+pub mod Telling

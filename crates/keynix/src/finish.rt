@@ -1,1 +1,73 @@
 //! The note and the status of an ending.
+
+ghost use Rattle.std.specs.Prelude.{◌≡◌, ◌≤◌, IfOk, string_bytes};
+ghost use Rattle.kn_io.specs.Faults.{Rose};
+ghost use Rattle.kn_io.specs.Sink.{GrewByPrefix};
+ghost use Rattle.unix_model.specs.Notes.{halted_note, spent_note};
+ghost use Rattle.keynix.specs.Telling.{Tells, TakesMemory, ending_note, ending_status, refusal_note};
+ghost use Rattle.keynix.specs.Endings.{refusal_view};
+
+use std::alloc::{AllocError, Global};
+
+use elf_read::ElfFault;
+use kn_io::{Failed, Sink};
+
+use crate::ending::{Ending, Refusal};
+
+/// The status with which the program ends.
+#[derive(Clone, Copy, Debug, PartialEq, Eq)]
+pub struct Status(pub u8);
+
+/// The status of an ending whose note was put.
+fn status_of(ending: Ending) -> u8
+    ensures { result ≡ ending_status ending }
+{
+    match ending {
+        Ending::Halted(_) => 0,
+        Ending::Usage => 1,
+        Ending::Refused(_) => 2,
+        Ending::ReadFault => 3,
+        Ending::WriteFault => 4,
+        Ending::NoMemory => 6,
+        Ending::TurnsSpent(_) => 9,
+    }
+}
+
+/// How process 1 ended: by an exit code or a signal.
+#[tactic(auto, unfolding(unix_model::specs::Notes::halted_note))]
+fn halted(alloc: Global, word: u32) -> Result<String, AllocError>
+    ensures { IfOk result (λ note. string_bytes note ≡ halted_note word) }
+{
+    if word % 256 == 0 {
+        let code = word / 256;
+        format!(in alloc; "halted {code}\n")
+    } else {
+        format!(in alloc; "halted signal {word}\n")
+    }
+}
+
+/// How many turns were made.
+#[tactic(auto, unfolding(unix_model::specs::Notes::spent_note))]
+fn spent(alloc: Global, turns: u64) -> Result<String, AllocError>
+    ensures { IfOk result (λ note. string_bytes note ≡ spent_note turns) }
+{
+    format!(in alloc; "turns spent {turns}\n")
+}
+
+/// The note of a refused input.
+#[tactic(auto, unfolding(crate::specs::Telling::refusal_note))]
+fn refused(refusal: Refusal) -> &'static [u8]
+    ensures { result.now ≡ refusal_note (refusal_view refusal) }
+{
+    match refusal {
+        Refusal::NotBuilt => b"bad input NotBuilt 0\n",
+        Refusal::NoRoom => b"bad input NoRoom 0\n",
+        Refusal::Elf(ElfFault::Short) => b"bad input Short 0\n",
+        Refusal::Elf(ElfFault::NotElf) => b"bad input NotElf 0\n",
+        Refusal::Elf(ElfFault::NotRv32) => b"bad input NotRv32 0\n",
+        Refusal::Elf(ElfFault::NotStatic) => b"bad input NotStatic 0\n",
+        Refusal::Elf(ElfFault::BadHeader) => b"bad input BadHeader 0\n",
+        Refusal::Elf(ElfFault::BadSegment) => b"bad input BadSegment 0\n",
+        Refusal::Elf(ElfFault::TooMany) => b"bad input TooMany 0\n",
+    }
+}
