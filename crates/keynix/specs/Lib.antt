@@ -1,3 +1,4 @@
 pub mod WordsView
 pub mod Endings
 pub mod Telling
+pub mod Promises

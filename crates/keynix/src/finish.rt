@@ -71,3 +71,56 @@ fn refused(refusal: Refusal) -> &'static [u8]
         Refusal::Elf(ElfFault::TooMany) => b"bad input TooMany 0\n",
     }
 }
+
+/// Puts the note of an ending that takes host memory, where there was some, and else a note that says so.
+fn tell_text<E: Sink>(
+    notes: &mut E,
+    ending: Ending,
+    text: Result<String, AllocError>,
+) -> Status
+    requires text { IfOk text (λ note. string_bytes note ≡ ending_note ending) }
+    requires takes { TakesMemory ending }
+    ensures tells { Tells E.grew (Rose (E.faults notes.old) (E.faults notes.new)) ending notes.old notes.new result.0 }
+    ensures counted { E.faults notes.old ≤ E.faults notes.new }
+{
+    match text {
+        Ok(note) => tell(notes, ending, note.as_bytes()),
+        Err(_) => match notes.put(b"no memory\n") {
+            Ok(()) => Status(6),
+            Err(_) => Status(4),
+        },
+    }
+}
+
+/// Puts the note of an ending.
+fn tell<E: Sink>(notes: &mut E, ending: Ending, note: &[u8]) -> Status
+    requires { note.now ≡ ending_note ending }
+    ensures tells { Tells E.grew (Rose (E.faults notes.old) (E.faults notes.new)) ending notes.old notes.new result.0 }
+    ensures counted { E.faults notes.old ≤ E.faults notes.new }
+{
+    match notes.put(note) {
+        Ok(()) => Status(status_of(ending)),
+        Err(_) => Status(4),
+    }
+}
+
+/// Tells of an ending: its note in one put, and its status.
+#[tactic(auto, unfolding(crate::specs::Telling::usage_note, crate::specs::Telling::read_fault_note, crate::specs::Telling::write_fault_note, crate::specs::Telling::no_memory_note))]
+pub fn finish<E: Sink>(alloc: Global, notes: &mut E, ending: Ending) -> Status
+    ensures tells { Tells E.grew (Rose (E.faults notes.old) (E.faults notes.new)) ending notes.old notes.new result.0 }
+    ensures counted { E.faults notes.old ≤ E.faults notes.new }
+{
+    match ending {
+        Ending::Halted(word) => tell_text(notes, ending, halted(alloc, word)),
+        Ending::TurnsSpent(turns) => tell_text(notes, ending, spent(alloc, turns)),
+        Ending::Usage => tell(
+            notes,
+            ending,
+            b"usage: keynix DISK COMMAND [--name=value]\n",
+        ),
+        Ending::Refused(refusal) => tell(notes, ending, refused(refusal)),
+        Ending::ReadFault => tell(notes, ending, b"read fault\n"),
+        Ending::WriteFault => tell(notes, ending, b"write fault\n"),
+        Ending::NoMemory => tell(notes, ending, b"no memory\n"),
+    }
+}
