@@ -32,3 +32,214 @@ module _ {S K E : Type 0} (left : S → Option (List ℕ)) (grew : K → List �
   usage_by command ReadFault follows e note = absurd (omega (arith, e))
   usage_by command WriteFault follows e note = absurd (omega (arith, e))
   usage_by command NoMemory follows e note = absurd (omega (arith, e))
+
+  -- the machine halted
+  halted_by : (command : Option Command) (ending : Ending) → ByCommand command left grew read write source_old source_new output_old output_new ending → ending_status ending ≡ 0 → noted notes_old (ending_note ending) notes_new
+      → (bytes : List ℕ) → left source_old ≡ Some bytes → HaltsOn command bytes left grew noted source_new output_old output_new notes_old notes_new
+  halted_by None (Halted word) follows e note bytes told = cc
+  halted_by (Some (Once turns)) (Halted word) follows e note bytes told = halted_on turns word bytes note (boot_of bytes) refl (follows.1 bytes told)
+    where
+      halted_on : (turns word : ℕ) (bytes : List ℕ) → noted notes_old (halted_note word) notes_new → (booted : Result Unix Refusal) → boot_of bytes ≡ booted → Ends turns booted left grew source_new output_old output_new (Halted word)
+          → HaltsOn (Some (Once turns)) bytes left grew noted source_new output_old output_new notes_old notes_new
+      halted_on turns word bytes note (Ok unix) same runs = record { turns = turns; unix = unix; word = word; command_is = refl; boots = same; runs = runs; notes_grew = note }
+      halted_on turns word bytes note (Err refusal) same never = absurd never
+  halted_by command (TurnsSpent made) follows e note bytes told = absurd (omega (arith, e))
+  halted_by command Usage follows e note bytes told = absurd (omega (arith, e))
+  halted_by command (Refused refusal) follows e note bytes told = absurd (omega (arith, e))
+  halted_by command ReadFault follows e note bytes told = absurd (omega (arith, e))
+  halted_by command WriteFault follows e note bytes told = absurd (omega (arith, e))
+  halted_by command NoMemory follows e note bytes told = absurd (omega (arith, e))
+
+  -- all turns were made
+  spent_by : (command : Option Command) (ending : Ending) → ByCommand command left grew read write source_old source_new output_old output_new ending → ending_status ending ≡ 9 → noted notes_old (ending_note ending) notes_new
+      → (bytes : List ℕ) → left source_old ≡ Some bytes → SpendsOn command bytes left grew noted source_new output_old output_new notes_old notes_new
+  spent_by None (TurnsSpent made) follows e note bytes told = cc
+  spent_by (Some (Once turns)) (TurnsSpent made) follows e note bytes told = spent_on turns made bytes note (boot_of bytes) refl (follows.1 bytes told)
+    where
+      spent_on : (turns made : ℕ) (bytes : List ℕ) → noted notes_old (spent_note made) notes_new → (booted : Result Unix Refusal) → boot_of bytes ≡ booted → Ends turns booted left grew source_new output_old output_new (TurnsSpent made)
+          → SpendsOn (Some (Once turns)) bytes left grew noted source_new output_old output_new notes_old notes_new
+      spent_on turns made bytes note (Ok unix) same runs =
+          record { turns = turns; unix = unix; command_is = refl; boots = same; runs = runs.0; notes_grew = subst (λ number. noted notes_old (spent_note number) notes_new) (sym runs.1) note }
+      spent_on turns made bytes note (Err refusal) same never = absurd never
+  spent_by command (Halted word) follows e note bytes told = absurd (omega (arith, e))
+  spent_by command Usage follows e note bytes told = absurd (omega (arith, e))
+  spent_by command (Refused refusal) follows e note bytes told = absurd (omega (arith, e))
+  spent_by command ReadFault follows e note bytes told = absurd (omega (arith, e))
+  spent_by command WriteFault follows e note bytes told = absurd (omega (arith, e))
+  spent_by command NoMemory follows e note bytes told = absurd (omega (arith, e))
+
+  -- the input is refused
+  refused_by : (command : Option Command) (ending : Ending) → ByCommand command left grew read write source_old source_new output_old output_new ending → ending_status ending ≡ 2 → noted notes_old (ending_note ending) notes_new
+      → (bytes : List ℕ) → left source_old ≡ Some bytes → RefusesOn command bytes noted output_old output_new notes_old notes_new
+  refused_by None (Refused refusal) follows e note bytes told = cc
+  refused_by (Some (Once turns)) (Refused refusal) follows e note bytes told = refused_on turns refusal bytes note (boot_of bytes) refl (follows.1 bytes told)
+    where
+      refused_on : (turns : ℕ) (refusal : _) (bytes : List ℕ) → noted notes_old (refusal_note (refusal_view refusal)) notes_new → (booted : Result Unix Refusal) → boot_of bytes ≡ booted → Ends turns booted left grew source_new output_old output_new (Refused refusal)
+          → RefusesOn (Some (Once turns)) bytes noted output_old output_new notes_old notes_new
+      refused_on turns refusal bytes note (Ok unix) same never = absurd never
+      refused_on turns refusal bytes note (Err why) same refuses =
+          record { turns = turns; refusal = why; command_is = refl; boots = same; output_stays = refuses.1; notes_grew = subst (λ told. noted notes_old (refusal_note told) notes_new) (sym refuses.0) note }
+  refused_by command (Halted word) follows e note bytes told = absurd (omega (arith, e))
+  refused_by command (TurnsSpent made) follows e note bytes told = absurd (omega (arith, e))
+  refused_by command Usage follows e note bytes told = absurd (omega (arith, e))
+  refused_by command ReadFault follows e note bytes told = absurd (omega (arith, e))
+  refused_by command WriteFault follows e note bytes told = absurd (omega (arith, e))
+  refused_by command NoMemory follows e note bytes told = absurd (omega (arith, e))
+
+  -- a call of the input failed
+  read_by : (command : Option Command) (ending : Ending) → ByCommand command left grew read write source_old source_new output_old output_new ending → ending_status ending ≡ 3 → noted notes_old (ending_note ending) notes_new
+      → read × noted notes_old read_fault_note notes_new
+  read_by None ReadFault follows e note = cc
+  read_by (Some (Once turns)) ReadFault follows e note = (follows.0, note)
+  read_by command (Halted word) follows e note = absurd (omega (arith, e))
+  read_by command (TurnsSpent made) follows e note = absurd (omega (arith, e))
+  read_by command Usage follows e note = absurd (omega (arith, e))
+  read_by command (Refused refusal) follows e note = absurd (omega (arith, e))
+  read_by command WriteFault follows e note = absurd (omega (arith, e))
+  read_by command NoMemory follows e note = absurd (omega (arith, e))
+
+  module _ (rose : Type 0) (command : Option Command) (status : ℕ) (answers : Answers command left grew noted read write rose source_old source_new output_old output_new notes_old notes_new status) where
+    pub usage-told : status ≡ 1 → (command ≡ None) × noted notes_old usage_note notes_new × (source_new ≡ source_old) × (output_new ≡ output_old)
+    usage-told e = let is = status-is noted rose answers.ending notes_old notes_new status 1 answers.told e (omega arith) (omega arith) in usage_by command answers.ending answers.follows is.0 is.1
+
+    pub halted-told : status ≡ 0 → (bytes : List ℕ) → left source_old ≡ Some bytes → HaltsOn command bytes left grew noted source_new output_old output_new notes_old notes_new
+    halted-told e = let is = status-is noted rose answers.ending notes_old notes_new status 0 answers.told e (omega arith) (omega arith) in halted_by command answers.ending answers.follows is.0 is.1
+
+    pub spent-told : status ≡ 9 → (bytes : List ℕ) → left source_old ≡ Some bytes → SpendsOn command bytes left grew noted source_new output_old output_new notes_old notes_new
+    spent-told e = let is = status-is noted rose answers.ending notes_old notes_new status 9 answers.told e (omega arith) (omega arith) in spent_by command answers.ending answers.follows is.0 is.1
+
+    pub refused-told : status ≡ 2 → (bytes : List ℕ) → left source_old ≡ Some bytes → RefusesOn command bytes noted output_old output_new notes_old notes_new
+    refused-told e = let is = status-is noted rose answers.ending notes_old notes_new status 2 answers.told e (omega arith) (omega arith) in refused_by command answers.ending answers.follows is.0 is.1
+
+    pub read-told : status ≡ 3 → read × noted notes_old read_fault_note notes_new
+    read-told e = let is = status-is noted rose answers.ending notes_old notes_new status 3 answers.told e (omega arith) (omega arith) in read_by command answers.ending answers.follows is.0 is.1
+
+    -- the output's or the notes' count rose
+    written : (ending : Ending) → ByCommand command left grew read write source_old source_new output_old output_new ending → ending_status ending ≡ 4 → write
+    written WriteFault follows e = cause command follows
+      where
+        cause : (command : Option Command) → ByCommand command left grew read write source_old source_new output_old output_new WriteFault → write
+        cause None follows = cc
+        cause (Some (Once turns)) follows = follows.0
+    written (Halted word) follows e = absurd (omega (arith, e))
+    written (TurnsSpent made) follows e = absurd (omega (arith, e))
+    written Usage follows e = absurd (omega (arith, e))
+    written (Refused refusal) follows e = absurd (omega (arith, e))
+    written ReadFault follows e = absurd (omega (arith, e))
+    written NoMemory follows e = absurd (omega (arith, e))
+
+    pub write-told : status ≡ 4 → write ⊎ rose
+    write-told e = by answers.told
+      where
+        by : Tells noted rose answers.ending notes_old notes_new status → write ⊎ rose
+        by (inl told) = inl (written answers.ending answers.follows (sym told.0 ∙ e))
+        by (inr (inl told)) = inr told.1
+        by (inr (inr told)) = absurd (omega (arith, told.0, e))
+
+    -- host memory ran out
+    no_memory_by : (ending : Ending) → ending_status ending ≡ 6 → noted notes_old (ending_note ending) notes_new → noted notes_old no_memory_note notes_new
+    no_memory_by NoMemory e note = note
+    no_memory_by (Halted word) e note = absurd (omega (arith, e))
+    no_memory_by (TurnsSpent made) e note = absurd (omega (arith, e))
+    no_memory_by Usage e note = absurd (omega (arith, e))
+    no_memory_by (Refused refusal) e note = absurd (omega (arith, e))
+    no_memory_by ReadFault e note = absurd (omega (arith, e))
+    no_memory_by WriteFault e note = absurd (omega (arith, e))
+
+    pub no_memory-told : status ≡ 6 → noted notes_old no_memory_note notes_new
+    no_memory-told e = by answers.told
+      where
+        by : Tells noted rose answers.ending notes_old notes_new status → noted notes_old no_memory_note notes_new
+        by (inl told) = no_memory_by answers.ending (sym told.0 ∙ e) told.1
+        by (inr (inl told)) = absurd (omega (arith, told.0, e))
+        by (inr (inr told)) = told.2
+
+    -- words that are no command are answered so, unless the note fails
+    usage_ending : command ≡ None → answers.ending ≡ Usage
+    usage_ending none = by command none answers.follows
+      where
+        by : (command : Option Command) → command ≡ None → ByCommand command left grew read write source_old source_new output_old output_new answers.ending → answers.ending ≡ Usage
+        by None none follows = follows.0
+        by (Some given) none follows = cc
+
+    pub usage-exactly : command ≡ None → (status ≡ 1) ⊎ ((status ≡ 4) × rose)
+    usage-exactly none = by answers.told
+      where
+        by : Tells noted rose answers.ending notes_old notes_new status → (status ≡ 1) ⊎ ((status ≡ 4) × rose)
+        by (inl told) = inl (told.0 ∙ ap ending_status (usage_ending none))
+        by (inr (inl told)) = inr (told.0, told.1)
+        by (inr (inr told)) = absurd (subst TakesMemory (usage_ending none) told.1)
+
+    -- the output got a front of what the run puts, and all of it where the run was made whole
+    part_by : (whole : (a b : K) (x : List ℕ) → grew a x b → GrewByPrefix grew a x b) (turns : ℕ) (unix : Unix) (ending : Ending) → RunsOn turns unix left grew source_new output_old output_new ending
+        → GrewByPrefix grew output_old (unix_run turns unix Round []).put output_new
+    part_by whole turns unix (Halted word) runs = whole output_old output_new _ runs.output_grew
+    part_by whole turns unix (TurnsSpent made) runs = whole output_old output_new _ runs.0.output_grew
+    part_by whole turns unix ReadFault runs = runs
+    part_by whole turns unix WriteFault runs = runs
+    part_by whole turns unix NoMemory runs = runs
+    part_by whole turns unix Usage runs = absurd runs
+    part_by whole turns unix (Refused refusal) runs = absurd runs
+
+    -- the ending of an input that boots, or doesn't
+    ends_on : (turns : ℕ) (bytes : List ℕ) → command ≡ Some (Once turns) → left source_old ≡ Some bytes → Ends turns (boot_of bytes) left grew source_new output_old output_new answers.ending
+    ends_on turns bytes given told = by command given answers.follows
+      where
+        by : (command : Option Command) → command ≡ Some (Once turns) → ByCommand command left grew read write source_old source_new output_old output_new answers.ending → Ends turns (boot_of bytes) left grew source_new output_old output_new answers.ending
+        by None given follows = cc
+        by (Some (Once others)) given follows =
+            let same : others ≡ turns = cc in
+            subst (λ turns. Ends turns (boot_of bytes) left grew source_new output_old output_new answers.ending) same (follows.1 bytes told)
+
+    pub part-told : ((a b : K) (x : List ℕ) → grew a x b → GrewByPrefix grew a x b) → (turns : ℕ) (bytes : List ℕ) (unix : Unix) → command ≡ Some (Once turns) → left source_old ≡ Some bytes → boot_of bytes ≡ Ok unix
+        → GrewByPrefix grew output_old (unix_run turns unix Round []).put output_new
+    part-told whole turns bytes unix given told boots =
+        part_by whole turns unix answers.ending (subst (λ booted. Ends turns booted left grew source_new output_old output_new answers.ending) boots (ends_on turns bytes given told))
+
+    caused_by : (turns : ℕ) → command ≡ Some (Once turns) → IsCaused read write answers.ending
+    caused_by turns given = by command given answers.follows
+      where
+        by : (command : Option Command) → command ≡ Some (Once turns) → ByCommand command left grew read write source_old source_new output_old output_new answers.ending → IsCaused read write answers.ending
+        by None given follows = cc
+        by (Some (Once others)) given follows = follows.0
+
+    -- without a fault and with memory, the status is the ending's
+    status_by : ¬ rose → status ≢ 6 → status ≡ ending_status answers.ending
+    status_by quiet enough = by answers.told
+      where
+        by : Tells noted rose answers.ending notes_old notes_new status → status ≡ ending_status answers.ending
+        by (inl told) = told.0
+        by (inr (inl told)) = absurd (quiet told.1)
+        by (inr (inr told)) = absurd (enough told.0)
+
+    complete_by : (turns : ℕ) (unix : Unix) (ending : Ending) → RunsOn turns unix left grew source_new output_old output_new ending → IsCaused read write ending → ¬ read → ¬ write → ending_status ending ≢ 6
+        → ending_status ending ≡ stop_status (unix_run turns unix Round []).stop
+    complete_by turns unix (Halted word) runs cause no_read no_write enough = sym (ap stop_status runs.stop_is)
+    complete_by turns unix (TurnsSpent made) runs cause no_read no_write enough = sym (ap stop_status runs.0.stop_is)
+    complete_by turns unix ReadFault runs cause no_read no_write enough = absurd (no_read cause)
+    complete_by turns unix WriteFault runs cause no_read no_write enough = absurd (no_write cause)
+    complete_by turns unix NoMemory runs cause no_read no_write enough = absurd (enough refl)
+    complete_by turns unix Usage runs cause no_read no_write enough = absurd runs
+    complete_by turns unix (Refused refusal) runs cause no_read no_write enough = absurd runs
+
+    pub complete-told : (turns : ℕ) (bytes : List ℕ) (unix : Unix) → command ≡ Some (Once turns) → left source_old ≡ Some bytes → boot_of bytes ≡ Ok unix → ¬ read → ¬ write → ¬ rose → status ≢ 6
+        → status ≡ stop_status (unix_run turns unix Round []).stop
+    complete-told turns bytes unix given told boots no_read no_write quiet enough =
+        let is : status ≡ ending_status answers.ending = status_by quiet enough in
+        is ∙ complete_by turns unix answers.ending (subst (λ booted. Ends turns booted left grew source_new output_old output_new answers.ending) boots (ends_on turns bytes given told))
+            (caused_by turns given) no_read no_write (λ six. enough (is ∙ six))
+
+    refuses_by : (refusal : Refusal) (ending : Ending) → RefusesAs refusal output_old output_new ending → IsCaused read write ending → ¬ read → ending_status ending ≢ 6 → ending_status ending ≡ 2
+    refuses_by refusal (Refused told) refuses cause no_read enough = refl
+    refuses_by refusal ReadFault refuses cause no_read enough = absurd (no_read cause)
+    refuses_by refusal NoMemory refuses cause no_read enough = absurd (enough refl)
+    refuses_by refusal WriteFault refuses cause no_read enough = absurd refuses
+    refuses_by refusal (Halted word) refuses cause no_read enough = absurd refuses
+    refuses_by refusal (TurnsSpent made) refuses cause no_read enough = absurd refuses
+    refuses_by refusal Usage refuses cause no_read enough = absurd refuses
+
+    pub refuses-told : (turns : ℕ) (bytes : List ℕ) (refusal : Refusal) → command ≡ Some (Once turns) → left source_old ≡ Some bytes → boot_of bytes ≡ Err refusal → ¬ read → ¬ rose → status ≢ 6 → status ≡ 2
+    refuses-told turns bytes refusal given told boots no_read quiet enough =
+        let is : status ≡ ending_status answers.ending = status_by quiet enough in
+        is ∙ refuses_by refusal answers.ending (subst (λ booted. Ends turns booted left grew source_new output_old output_new answers.ending) boots (ends_on turns bytes given told))
+            (caused_by turns given) no_read (λ six. enough (is ∙ six))

@@ -1,9 +1,14 @@
 //! The top call: all that the program does.
 
-ghost use Rattle.std.specs.Prelude.{◌≡◌, ◌≤◌, map, string_bytes};
+ghost use Rattle.std.specs.Prelude.{◌≡◌, ◌≢◌, ◌≤◌, ◌⊎◌, ℕ, List, [], None, Some, Ok, Err, map, string_bytes};
 ghost use Rattle.kn_io.specs.Faults.{Rose};
-ghost use Rattle.unix_model.specs.Words.{command_of};
-ghost use Rattle.keynix.specs.Promises.{Answers};
+ghost use Rattle.kn_io.specs.Sink.{GrewByPrefix};
+ghost use Rattle.unix_model.specs.Boot.{Refusal};
+ghost use Rattle.unix_model.specs.Schedule.{Round, unix_run};
+ghost use Rattle.unix_model.specs.State.{Unix};
+ghost use Rattle.unix_model.specs.Words.{Once, command_of};
+ghost use Rattle.keynix.specs.Promises.{Answers, HaltsOn, RefusesOn, SpendsOn, boot_of, stop_status};
+ghost use Rattle.keynix.specs.Telling.{no_memory_note, read_fault_note, usage_note};
 
 use std::alloc::Global;
 
@@ -36,4 +41,54 @@ fn perform<S: Source, K: Sink, E: Sink>(
             finish(alloc, notes, ending)
         }
     }
+}
+
+/// All that the program does: does what `words` say over the input, the output and the notes, and gives the status with
+/// which it ends. Each ending puts one note, in one put.
+///
+/// 0: the machine of the input halted. 1: the words are no command. 2: the input is refused. 3: a call of the input
+/// failed. 4: a call of the output or of the notes failed. 6: host memory ran out. 9: all turns were made.
+///
+/// What is said of the input's bytes holds where the source tells them, and what is said of the output and the notes is
+/// by what their sinks tell; over real streams neither is told.
+pub fn keynix<S: Source, K: Sink, E: Sink>(
+    alloc: Global,
+    words: &[String],
+    input: &mut S,
+    output: &mut K,
+    notes: &mut E,
+) -> Status
+    ensures halted { result.0 ≡ 0 → (bytes : List ℕ) → S.left input.old ≡ Some bytes → HaltsOn (command_of (map string_bytes words.now)) bytes S.left K.grew E.grew input.new output.old output.new notes.old notes.new }
+    ensures spent { result.0 ≡ 9 → (bytes : List ℕ) → S.left input.old ≡ Some bytes → SpendsOn (command_of (map string_bytes words.now)) bytes S.left K.grew E.grew input.new output.old output.new notes.old notes.new }
+    ensures refused { result.0 ≡ 2 → (bytes : List ℕ) → S.left input.old ≡ Some bytes → RefusesOn (command_of (map string_bytes words.now)) bytes E.grew output.old output.new notes.old notes.new }
+
+    // The words.
+    ensures usage { result.0 ≡ 1 → (command_of (map string_bytes words.now) ≡ None) × E.grew notes.old usage_note notes.new × (input.new ≡ input.old) × (output.new ≡ output.old) }
+    ensures usage_exactly { command_of (map string_bytes words.now) ≡ None → (result.0 ≡ 1) ⊎ ((result.0 ≡ 4) × Rose (E.faults notes.old) (E.faults notes.new)) }
+
+    // Faults, each with its cause, and want of memory.
+    ensures read_fault { result.0 ≡ 3 → Rose (S.faults input.old) (S.faults input.new) × E.grew notes.old read_fault_note notes.new }
+    ensures write_fault { result.0 ≡ 4 → Rose (K.faults output.old) (K.faults output.new) ⊎ Rose (E.faults notes.old) (E.faults notes.new) }
+    ensures no_memory { result.0 ≡ 6 → E.grew notes.old no_memory_note notes.new }
+    ensures part {
+        (turns : ℕ) (bytes : List ℕ) (unix : Unix) → command_of (map string_bytes words.now) ≡ Some (Once turns) → S.left input.old ≡ Some bytes → boot_of bytes ≡ Ok unix
+            → GrewByPrefix K.grew output.old (unix_run turns unix Round []).put output.new
+    }
+
+    // Without a fault, and with memory, the status is what the input and the run say.
+    ensures complete {
+        (turns : ℕ) (bytes : List ℕ) (unix : Unix) → command_of (map string_bytes words.now) ≡ Some (Once turns) → S.left input.old ≡ Some bytes → boot_of bytes ≡ Ok unix
+            → ¬ Rose (S.faults input.old) (S.faults input.new) → ¬ Rose (K.faults output.old) (K.faults output.new) → ¬ Rose (E.faults notes.old) (E.faults notes.new) → result.0 ≢ 6
+            → result.0 ≡ stop_status (unix_run turns unix Round []).stop
+    }
+    ensures refuses {
+        (turns : ℕ) (bytes : List ℕ) (refusal : Refusal) → command_of (map string_bytes words.now) ≡ Some (Once turns) → S.left input.old ≡ Some bytes → boot_of bytes ≡ Err refusal
+            → ¬ Rose (S.faults input.old) (S.faults input.new) → ¬ Rose (E.faults notes.old) (E.faults notes.new) → result.0 ≢ 6 → result.0 ≡ 2
+    }
+
+    ensures input_counted { S.faults input.old ≤ S.faults input.new }
+    ensures output_counted { K.faults output.old ≤ K.faults output.new }
+    ensures notes_counted { E.faults notes.old ≤ E.faults notes.new }
+{
+    perform(alloc, words, input, output, notes)
 }
