@@ -75,7 +75,7 @@ module _ {S K : Type 0} (turns pages quantum : ℕ) (left : S → Option (List �
   unfolding model.most_file_bytes
   too_long bytes elf long =
       boot-no_room pages quantum (model.empty_machine pages quantum) bytes refl elf
-          (stored-too_large (model.empty_machine pages quantum) model.init_name bytes (ap (λ test. test || nat_le model.most_places (length (model.places_of (at (model.empty_machine pages quantum).files.inodes 1)))) (lt-ltb 4194304 (length bytes) long)))
+      (stored-too_large (model.empty_machine pages quantum) model.init_name bytes (ap (λ test. test || nat_le model.most_places (length (model.places_of (at (model.empty_machine pages quantum).files.inodes 1)))) (lt-ltb 4194304 (length bytes) long)))
 
   -- the file wasn't read
   pub unread-ends : (bytes : List ℕ) (after : Option (List ℕ)) (ending : Ending) → Reads bytes after (Err ending) → Ends turns (model.booted pages quantum bytes) left grew source old old ending

@@ -37,13 +37,13 @@ module _ {S K : Type 0} (turns : ℕ) (start : Unix) (left : S → Option (List 
       let step : Step Unix Schedule = step_of made_turn Round in
       let left_is : made_turn.left ≡ [] = turned-leaves unix (next_slot unix Round) [] in
       let same : unix_run rest made_turn.state Round made_turn.left ≡ unix_run rest next Round [] =
-          ap₂ (λ state input. unix_run rest state Round input) (sym turn.state_is) left_is in
+      ap₂ (λ state input. unix_run rest state Round input) (sym turn.state_is) left_is in
       record {
         put = before.put ++ made_turn.put;
         continues =
             continues-same (unix_run turns start Round []) (unix_run rest made_turn.state Round made_turn.left) (unix_run rest next Round []) (before.put ++ made_turn.put) (made + 1) same
-                (continues-step (unix_run turns start Round []) (unix_run rest made_turn.state Round made_turn.left) step before.put made
-                    (continues-same (unix_run turns start Round []) (unix_run (suc rest) unix Round []) (followed_by (one_turn step) (unix_run rest made_turn.state Round made_turn.left)) before.put made (run-step rest unix [] going) before.continues));
+            (continues-step (unix_run turns start Round []) (unix_run rest made_turn.state Round made_turn.left) step before.put made
+            (continues-same (unix_run turns start Round []) (unix_run (suc rest) unix Round []) (followed_by (one_turn step) (unix_run rest made_turn.state Round made_turn.left)) before.put made (run-step rest unix [] going) before.continues));
         output_grew = joined old mid new before.put made_turn.put before.output_grew turn.sink_grew;
         input_ended = turn.source_left ∙ ap Some left_is;
       }
@@ -58,8 +58,8 @@ module _ {S K : Type 0} (turns : ℕ) (start : Unix) (left : S → Option (List 
         stop_is = before.continues.stop_is ∙ ap (λ (run : Run Unix Schedule). run.stop) same;
         output_grew =
             subst (λ bytes. grew old bytes new)
-                (sym (before.continues.put_is ∙ (ap (λ (run : Run Unix Schedule). before.put ++ run.put) same ∙ append-nil before.put)))
-                before.output_grew;
+            (sym (before.continues.put_is ∙ (ap (λ (run : Run Unix Schedule). before.put ++ run.put) same ∙ append-nil before.put)))
+            before.output_grew;
         input_ended = before.input_ended;
       }
 
@@ -68,15 +68,17 @@ module _ {S K : Type 0} (turns : ℕ) (start : Unix) (left : S → Option (List 
       → SoFar turns start unix 0 made left grew source old new → halted_with unix ≡ None
       → RunsWhole turns start left grew source old new Going × ((unix_run turns start Round []).turns ≡ made)
   so_far-spent unix made source new before going =
-      let same : unix_run 0 unix Round [] ≡ ended unix Round [] Going = run-zero unix [] going in
-      (record {
-        stop_is = before.continues.stop_is ∙ ap (λ (run : Run Unix Schedule). run.stop) same;
-        output_grew =
-            subst (λ bytes. grew old bytes new)
-                (sym (before.continues.put_is ∙ (ap (λ (run : Run Unix Schedule). before.put ++ run.put) same ∙ append-nil before.put)))
-                before.output_grew;
-        input_ended = before.input_ended;
-      }, before.continues.turns_are ∙ (ap (λ (run : Run Unix Schedule). made + run.turns) same ∙ add-zero made))
+      let same : unix_run 0 unix Round [] ≡ ended unix Round [] Going = run-zero unix [] going in (
+        record {
+          stop_is = before.continues.stop_is ∙ ap (λ (run : Run Unix Schedule). run.stop) same;
+          output_grew =
+              subst (λ bytes. grew old bytes new)
+              (sym (before.continues.put_is ∙ (ap (λ (run : Run Unix Schedule). before.put ++ run.put) same ∙ append-nil before.put)))
+              before.output_grew;
+          input_ended = before.input_ended;
+        },
+        before.continues.turns_are ∙ (ap (λ (run : Run Unix Schedule). made + run.turns) same ∙ add-zero made),
+      )
 
   -- a turn failed
   pub so_far-part : (unix : Unix) (rest made : ℕ) (source : S) (mid new : K)
@@ -90,9 +92,9 @@ module _ {S K : Type 0} (turns : ℕ) (start : Unix) (left : S → Option (List 
       let step : Step Unix Schedule = step_of made_turn Round in
       let after : Run Unix Schedule = unix_run rest made_turn.state Round made_turn.left in
       let whole : (unix_run turns start Round []).put ≡ (before.put ++ made_turn.put) ++ after.put =
-          before.continues.put_is ∙ (ap (λ (run : Run Unix Schedule). before.put ++ run.put) (run-step rest unix [] going) ∙ sym (append_assoc before.put made_turn.put after.put)) in
+      before.continues.put_is ∙ (ap (λ (run : Run Unix Schedule). before.put ++ run.put) (run-step rest unix [] going) ∙ sym (append_assoc before.put made_turn.put after.put)) in
       subst (λ bytes. GrewByPrefix grew old bytes new) (sym whole)
-          (longer old new (before.put ++ made_turn.put) after.put (joined old mid new before.put made_turn.put before.output_grew part))
+      (longer old new (before.put ++ made_turn.put) after.put (joined old mid new before.put made_turn.put before.output_grew part))
 
   -- the ending of a turn that failed
   pub fault-ends : (source : S) (new : K) (read write : Type 0) (failed : FlatFault) → IsTurnFault read write failed → PutsPart turns start grew old new

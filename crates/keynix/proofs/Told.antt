@@ -227,7 +227,7 @@ module _ {S K E : Type 0} (left : S → Option (List ℕ)) (grew : K → List �
     complete-told turns bytes unix given told boots no_read no_write quiet enough =
         let is : status ≡ ending_status answers.ending = status_by quiet enough in
         is ∙ complete_by turns unix answers.ending (subst (λ booted. Ends turns booted left grew source_new output_old output_new answers.ending) boots (ends_on turns bytes given told))
-            (caused_by turns given) no_read no_write (λ six. enough (is ∙ six))
+        (caused_by turns given) no_read no_write (λ six. enough (is ∙ six))
 
     refuses_by : (refusal : Refusal) (ending : Ending) → RefusesAs refusal output_old output_new ending → IsCaused read write ending → ¬ read → ending_status ending ≢ 6 → ending_status ending ≡ 2
     refuses_by refusal (Refused told) refuses cause no_read enough = refl
@@ -242,4 +242,4 @@ module _ {S K E : Type 0} (left : S → Option (List ℕ)) (grew : K → List �
     refuses-told turns bytes refusal given told boots no_read quiet enough =
         let is : status ≡ ending_status answers.ending = status_by quiet enough in
         is ∙ refuses_by refusal answers.ending (subst (λ booted. Ends turns booted left grew source_new output_old output_new answers.ending) boots (ends_on turns bytes given told))
-            (caused_by turns given) no_read (λ six. enough (is ∙ six))
+        (caused_by turns given) no_read (λ six. enough (is ∙ six))

@@ -7,12 +7,10 @@ ghost use Rattle.unix_model.specs.Notes.{halted_note, spent_note};
 ghost use Rattle.keynix.specs.Telling.{Tells, TakesMemory, ending_note, ending_status, refusal_note};
 ghost use Rattle.keynix.specs.Endings.{refusal_view};
 
-use std::alloc::{AllocError, Global};
-
+use crate::ending::{Ending, Refusal};
 use elf_read::ElfFault;
 use kn_io::{Failed, Sink};
-
-use crate::ending::{Ending, Refusal};
+use std::alloc::{AllocError, Global};
 
 /// The status with which the program ends.
 #[derive(Clone, Copy, Debug, PartialEq, Eq)]
@@ -73,11 +71,7 @@ fn refused(refusal: Refusal) -> &'static [u8]
 }
 
 /// Puts the note of an ending that takes host memory, where there was some, and else a note that says so.
-fn tell_text<E: Sink>(
-    notes: &mut E,
-    ending: Ending,
-    text: Result<String, AllocError>,
-) -> Status
+fn tell_text<E: Sink>(notes: &mut E, ending: Ending, text: Result<String, AllocError>) -> Status
     requires text { IfOk text (λ note. string_bytes note ≡ ending_note ending) }
     requires takes { TakesMemory ending }
     ensures tells { Tells E.grew (Rose (E.faults notes.old) (E.faults notes.new)) ending notes.old notes.new result.0 }

@@ -4,22 +4,19 @@
 mod ending;
 mod finish;
 mod once;
+#[cfg(test)]
+mod tests;
 mod top;
 mod words;
 
-#[cfg(test)]
-mod tests;
-
+use crate::finish::Status;
+use crate::top::keynix;
+use kn_io::{ReadSource, WriteSink};
 use std::alloc::{AllocError, Global};
 use std::env;
 use std::io::{self, BufReader};
 use std::process::ExitCode;
 use std::rt::Env;
-
-use kn_io::{ReadSource, WriteSink};
-
-use crate::finish::Status;
-use crate::top::keynix;
 
 /// The words after the program's name; none where they can't be read as text.
 fn read_words(rt: &(impl Env + Alloc<A = Global>)) -> Result<Vec<String>, AllocError> {

@@ -2,18 +2,15 @@
 
 ghost use Rattle.std.specs.Prelude.{◌≡◌, ◌≤◌, ℕ, List, [], Some, IfErr, IfOk, slice_index};
 ghost use Rattle.kn_io.specs.Faults.{Rose};
-
 ghost use Rattle.unix_model.specs.Boot.{booted};
 ghost use Rattle.unix_model.specs.Words.{default_pages, default_quantum};
 ghost use Rattle.flat_unix.specs.FlatView.{unix_of};
 ghost use Rattle.keynix.specs.Endings.{Boots, Ends, IsCaused, Reads, RunsOn, fault_ending};
 
-use std::alloc::Global;
-
+use crate::ending::{Ending, Refusal};
 use flat_unix::{Flat, FlatFault};
 use kn_io::{ReadError, Sink, Source, read_up_to};
-
-use crate::ending::{Ending, Refusal};
+use std::alloc::Global;
 
 /// The most bytes that an ELF file has.
 const MOST_BYTES: usize = 4_194_304;
@@ -23,15 +20,11 @@ const ELF: u8 = 0x7F;
 
 /// The pages and the quantum of a machine where no option says how many.
 const DEFAULT_PAGES: u32 = 2_048;
+
 const DEFAULT_QUANTUM: u32 = 100;
 
 /// Boots the input, an ELF file, in memory, and runs it for at most so many turns.
-pub fn once<S: Source, K: Sink>(
-    alloc: Global,
-    turns: u64,
-    input: &mut S,
-    output: &mut K,
-) -> Ending
+pub fn once<S: Source, K: Sink>(alloc: Global, turns: u64, input: &mut S, output: &mut K) -> Ending
     ensures ends { (bytes : List ℕ) → S.left input.old ≡ Some bytes → Ends turns (booted default_pages default_quantum bytes) S.left K.grew input.new output.old output.new result }
     ensures caused { IsCaused (Rose (S.faults input.old) (S.faults input.new)) (Rose (K.faults output.old) (K.faults output.new)) result }
     ensures input_counted { S.faults input.old ≤ S.faults input.new }

@@ -10,14 +10,12 @@ ghost use Rattle.unix_model.specs.Words.{Once, command_of};
 ghost use Rattle.keynix.specs.Promises.{Answers, HaltsOn, RefusesOn, SpendsOn, boot_of, stop_status};
 ghost use Rattle.keynix.specs.Telling.{no_memory_note, read_fault_note, usage_note};
 
-use std::alloc::Global;
-
-use kn_io::{Sink, Source};
-
 use crate::ending::Ending;
 use crate::finish::{Status, finish};
 use crate::once::once;
 use crate::words::{Command, parse};
+use kn_io::{Sink, Source};
+use std::alloc::Global;
 
 /// Does what the words say, and tells of it.
 fn perform<S: Source, K: Sink, E: Sink>(
@@ -27,9 +25,7 @@ fn perform<S: Source, K: Sink, E: Sink>(
     output: &mut K,
     notes: &mut E,
 ) -> Status
-    ensures answers {
-        Answers (command_of (map string_bytes words.now)) S.left K.grew E.grew (Rose (S.faults input.old) (S.faults input.new)) (Rose (K.faults output.old) (K.faults output.new)) (Rose (E.faults notes.old) (E.faults notes.new)) input.old input.new output.old output.new notes.old notes.new result.0
-    }
+    ensures answers { Answers (command_of (map string_bytes words.now)) S.left K.grew E.grew (Rose (S.faults input.old) (S.faults input.new)) (Rose (K.faults output.old) (K.faults output.new)) (Rose (E.faults notes.old) (E.faults notes.new)) input.old input.new output.old output.new notes.old notes.new result.0 }
     ensures input_counted { S.faults input.old ≤ S.faults input.new }
     ensures output_counted { K.faults output.old ≤ K.faults output.new }
     ensures notes_counted { E.faults notes.old ≤ E.faults notes.new }
@@ -70,21 +66,15 @@ pub fn keynix<S: Source, K: Sink, E: Sink>(
     ensures read_fault { result.0 ≡ 3 → Rose (S.faults input.old) (S.faults input.new) × E.grew notes.old read_fault_note notes.new }
     ensures write_fault { result.0 ≡ 4 → Rose (K.faults output.old) (K.faults output.new) ⊎ Rose (E.faults notes.old) (E.faults notes.new) }
     ensures no_memory { result.0 ≡ 6 → E.grew notes.old no_memory_note notes.new }
-    ensures part {
-        (turns : ℕ) (bytes : List ℕ) (unix : Unix) → command_of (map string_bytes words.now) ≡ Some (Once turns) → S.left input.old ≡ Some bytes → boot_of bytes ≡ Ok unix
-            → GrewByPrefix K.grew output.old (unix_run turns unix Round []).put output.new
-    }
+    ensures part { (turns : ℕ) (bytes : List ℕ) (unix : Unix) → command_of (map string_bytes words.now) ≡ Some (Once turns) → S.left input.old ≡ Some bytes → boot_of bytes ≡ Ok unix
+        → GrewByPrefix K.grew output.old (unix_run turns unix Round []).put output.new }
 
     // Without a fault, and with memory, the status is what the input and the run say.
-    ensures complete {
-        (turns : ℕ) (bytes : List ℕ) (unix : Unix) → command_of (map string_bytes words.now) ≡ Some (Once turns) → S.left input.old ≡ Some bytes → boot_of bytes ≡ Ok unix
-            → ¬ Rose (S.faults input.old) (S.faults input.new) → ¬ Rose (K.faults output.old) (K.faults output.new) → ¬ Rose (E.faults notes.old) (E.faults notes.new) → result.0 ≢ 6
-            → result.0 ≡ stop_status (unix_run turns unix Round []).stop
-    }
-    ensures refuses {
-        (turns : ℕ) (bytes : List ℕ) (refusal : Refusal) → command_of (map string_bytes words.now) ≡ Some (Once turns) → S.left input.old ≡ Some bytes → boot_of bytes ≡ Err refusal
-            → ¬ Rose (S.faults input.old) (S.faults input.new) → ¬ Rose (E.faults notes.old) (E.faults notes.new) → result.0 ≢ 6 → result.0 ≡ 2
-    }
+    ensures complete { (turns : ℕ) (bytes : List ℕ) (unix : Unix) → command_of (map string_bytes words.now) ≡ Some (Once turns) → S.left input.old ≡ Some bytes → boot_of bytes ≡ Ok unix
+        → ¬ Rose (S.faults input.old) (S.faults input.new) → ¬ Rose (K.faults output.old) (K.faults output.new) → ¬ Rose (E.faults notes.old) (E.faults notes.new) → result.0 ≢ 6
+        → result.0 ≡ stop_status (unix_run turns unix Round []).stop }
+    ensures refuses { (turns : ℕ) (bytes : List ℕ) (refusal : Refusal) → command_of (map string_bytes words.now) ≡ Some (Once turns) → S.left input.old ≡ Some bytes → boot_of bytes ≡ Err refusal
+        → ¬ Rose (S.faults input.old) (S.faults input.new) → ¬ Rose (E.faults notes.old) (E.faults notes.new) → result.0 ≢ 6 → result.0 ≡ 2 }
 
     ensures input_counted { S.faults input.old ≤ S.faults input.new }
     ensures output_counted { K.faults output.old ≤ K.faults output.new }

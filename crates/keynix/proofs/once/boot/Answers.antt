@@ -22,6 +22,6 @@ pub returns-in-Err-start : goal.returns-in-Err-start
 unfolding default_pages default_quantum
 returns-in-Err-start c =
     subst (λ ending. Boots (booted 2048 100 c.args.file.now) (Err ending)) (sym c.fault-in-Err-start.ensures)
-        (start-fails (booted 2048 100 c.args.file.now) (loaded c.args.file.now (unix_of c.add_file.new.self) (plan_of c.args.file.now)) (unix_of c.add_file.new.self) (unix_of c.start.new.self) c.in-Err-start.failed
-            (boot-stored 2048 100 (unix_of c.in-Ok.flat) c.args.file.now c.in-Ok.ensures.empty c.requires (unix_of c.add_file.new.self) c.in-Ok-add_file.ensures.ok)
-            (c.in-Err-start.ensures.start c.args.file.now (boot-named 2048 100 (unix_of c.in-Ok.flat) c.args.file.now c.in-Ok.ensures.empty c.requires (unix_of c.add_file.new.self) c.in-Ok-add_file.ensures.ok)))
+    (start-fails (booted 2048 100 c.args.file.now) (loaded c.args.file.now (unix_of c.add_file.new.self) (plan_of c.args.file.now)) (unix_of c.add_file.new.self) (unix_of c.start.new.self) c.in-Err-start.failed
+    (boot-stored 2048 100 (unix_of c.in-Ok.flat) c.args.file.now c.in-Ok.ensures.empty c.requires (unix_of c.add_file.new.self) c.in-Ok-add_file.ensures.ok)
+    (c.in-Err-start.ensures.start c.args.file.now (boot-named 2048 100 (unix_of c.in-Ok.flat) c.args.file.now c.in-Ok.ensures.empty c.requires (unix_of c.add_file.new.self) c.in-Ok-add_file.ensures.ok)))

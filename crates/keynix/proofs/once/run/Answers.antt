@@ -10,32 +10,32 @@ use Rattle.keynix.proofs.once.run.Goals as goal
 pub returns-in-Some-clause-runs : goal.returns-in-Some-clause-runs
 returns-in-Some-clause-runs g c = λ told.
     so_far-halts c.args.turns (unix_of c.args.flat.now) g.S.Source.left g.K.Sink.grew c.args.output.now (unix_of c.loop-made.flat) _ c.loop-made.made c.in-Some.word.0 c.loop-made.input c.loop-made.output
-        (c.loop-made.invariant.so_far told) (sym c.in-Some.ensures)
+    (c.loop-made.invariant.so_far told) (sym c.in-Some.ensures)
 
 pub returns-in-Err-clause-runs : goal.returns-in-Err-clause-runs
 returns-in-Err-clause-runs g c = λ told.
     let left : ℕ = c.args.turns - (c.loop-made.made + 1) in
     let one_more : c.args.turns - c.loop-made.made ≡ suc left = omega arith in
     let before : SoFar c.args.turns (unix_of c.args.flat.now) (unix_of c.loop-made.flat) (suc left) c.loop-made.made g.S.Source.left g.K.Sink.grew c.loop-made.input c.args.output.now c.loop-made.output =
-        subst (λ rest. SoFar c.args.turns (unix_of c.args.flat.now) (unix_of c.loop-made.flat) rest c.loop-made.made g.S.Source.left g.K.Sink.grew c.loop-made.input c.args.output.now c.loop-made.output) one_more (c.loop-made.invariant.so_far told) in
+    subst (λ rest. SoFar c.args.turns (unix_of c.args.flat.now) (unix_of c.loop-made.flat) rest c.loop-made.made g.S.Source.left g.K.Sink.grew c.loop-made.input c.args.output.now c.loop-made.output) one_more (c.loop-made.invariant.so_far told) in
     let part : GrewByPrefix g.K.Sink.grew c.loop-made.output (turned (unix_of c.loop-made.flat) (next_slot (unix_of c.loop-made.flat) Round) []).put c.turn.new.output =
-        subst (λ slot. GrewByPrefix g.K.Sink.grew c.loop-made.output (turned (unix_of c.loop-made.flat) slot []).put c.turn.new.output) c.round_slot-slot.ensures.slot (c.in-Err.ensures.part [] before.input_ended) in
+    subst (λ slot. GrewByPrefix g.K.Sink.grew c.loop-made.output (turned (unix_of c.loop-made.flat) slot []).put c.turn.new.output) c.round_slot-slot.ensures.slot (c.in-Err.ensures.part [] before.input_ended) in
     subst (λ ending. RunsOn c.args.turns (unix_of c.args.flat.now) g.S.Source.left g.K.Sink.grew c.turn.new.input c.args.output.now c.turn.new.output ending) (sym c.fault.ensures)
-        (fault-ends c.args.turns (unix_of c.args.flat.now) g.S.Source.left g.K.Sink.grew c.args.output.now c.turn.new.input c.turn.new.output _ _ c.in-Err.failed c.in-Err.ensures.cause
-            (so_far-part c.args.turns (unix_of c.args.flat.now) g.S.Source.left g.K.Sink.grew c.args.output.now (unix_of c.loop-made.flat) left c.loop-made.made c.loop-made.input c.loop-made.output c.turn.new.output
-                g.met.K.Sink.part_joined g.met.K.Sink.part_longer before (sym c.in-None.ensures) part))
+    (fault-ends c.args.turns (unix_of c.args.flat.now) g.S.Source.left g.K.Sink.grew c.args.output.now c.turn.new.input c.turn.new.output _ _ c.in-Err.failed c.in-Err.ensures.cause
+    (so_far-part c.args.turns (unix_of c.args.flat.now) g.S.Source.left g.K.Sink.grew c.args.output.now (unix_of c.loop-made.flat) left c.loop-made.made c.loop-made.input c.loop-made.output c.turn.new.output
+    g.met.K.Sink.part_joined g.met.K.Sink.part_longer before (sym c.in-None.ensures) part))
 
 pub loop-made-preserved : goal.loop-made-preserved
 loop-made-preserved g c = record {
   so_far = λ told.
-    let left : ℕ = c.args.turns - (c.loop-made.made + 1) in
-    let one_more : c.args.turns - c.loop-made.made ≡ suc left = omega arith in
-    let before : SoFar c.args.turns (unix_of c.args.flat.now) (unix_of c.loop-made.flat) (suc left) c.loop-made.made g.S.Source.left g.K.Sink.grew c.loop-made.input c.args.output.now c.loop-made.output =
-        subst (λ rest. SoFar c.args.turns (unix_of c.args.flat.now) (unix_of c.loop-made.flat) rest c.loop-made.made g.S.Source.left g.K.Sink.grew c.loop-made.input c.args.output.now c.loop-made.output) one_more (c.loop-made.invariant.so_far told) in
-    let turn : MakesTurn (turned (unix_of c.loop-made.flat) (next_slot (unix_of c.loop-made.flat) Round) []) g.S.Source.left g.K.Sink.grew (unix_of c.turn.new.self) c.in-Ok.field-0 c.turn.new.input c.loop-made.output c.turn.new.output =
-        subst (λ slot. MakesTurn (turned (unix_of c.loop-made.flat) slot []) g.S.Source.left g.K.Sink.grew (unix_of c.turn.new.self) c.in-Ok.field-0 c.turn.new.input c.loop-made.output c.turn.new.output) c.round_slot-slot.ensures.slot (c.in-Ok.ensures.turn [] before.input_ended) in
-    so_far-step c.args.turns (unix_of c.args.flat.now) g.S.Source.left g.K.Sink.grew c.args.output.now (unix_of c.loop-made.flat) (unix_of c.turn.new.self) left c.loop-made.made c.in-Ok.field-0 c.loop-made.input c.turn.new.input c.loop-made.output c.turn.new.output
-        g.met.K.Sink.grew_joined before (sym c.in-None.ensures) turn;
+      let left : ℕ = c.args.turns - (c.loop-made.made + 1) in
+      let one_more : c.args.turns - c.loop-made.made ≡ suc left = omega arith in
+      let before : SoFar c.args.turns (unix_of c.args.flat.now) (unix_of c.loop-made.flat) (suc left) c.loop-made.made g.S.Source.left g.K.Sink.grew c.loop-made.input c.args.output.now c.loop-made.output =
+      subst (λ rest. SoFar c.args.turns (unix_of c.args.flat.now) (unix_of c.loop-made.flat) rest c.loop-made.made g.S.Source.left g.K.Sink.grew c.loop-made.input c.args.output.now c.loop-made.output) one_more (c.loop-made.invariant.so_far told) in
+      let turn : MakesTurn (turned (unix_of c.loop-made.flat) (next_slot (unix_of c.loop-made.flat) Round) []) g.S.Source.left g.K.Sink.grew (unix_of c.turn.new.self) c.in-Ok.field-0 c.turn.new.input c.loop-made.output c.turn.new.output =
+      subst (λ slot. MakesTurn (turned (unix_of c.loop-made.flat) slot []) g.S.Source.left g.K.Sink.grew (unix_of c.turn.new.self) c.in-Ok.field-0 c.turn.new.input c.loop-made.output c.turn.new.output) c.round_slot-slot.ensures.slot (c.in-Ok.ensures.turn [] before.input_ended) in
+      so_far-step c.args.turns (unix_of c.args.flat.now) g.S.Source.left g.K.Sink.grew c.args.output.now (unix_of c.loop-made.flat) (unix_of c.turn.new.self) left c.loop-made.made c.in-Ok.field-0 c.loop-made.input c.turn.new.input c.loop-made.output c.turn.new.output
+      g.met.K.Sink.grew_joined before (sym c.in-None.ensures) turn;
   input_counted = omega (arith, c.loop-made.invariant.input_counted, c.turn.ensures.input_counted);
   output_counted = omega (arith, c.loop-made.invariant.output_counted, c.turn.ensures.output_counted);
 }
@@ -43,13 +43,13 @@ loop-made-preserved g c = record {
 pub returns-in-Some-halted-clause-runs : goal.returns-in-Some-halted-clause-runs
 returns-in-Some-halted-clause-runs g c = λ told.
     so_far-halts c.args.turns (unix_of c.args.flat.now) g.S.Source.left g.K.Sink.grew c.args.output.now (unix_of c.loop-made.flat) _ c.loop-made.made c.in-Some-halted.word.0 c.loop-made.input c.loop-made.output
-        (c.loop-made.invariant.so_far told) (sym c.in-Some-halted.ensures)
+    (c.loop-made.invariant.so_far told) (sym c.in-Some-halted.ensures)
 
 pub returns-in-None-halted-clause-runs : goal.returns-in-None-halted-clause-runs
 returns-in-None-halted-clause-runs g c = λ told.
     let all : c.loop-made.made ≡ c.args.turns = omega arith in
     let none : c.args.turns - c.loop-made.made ≡ 0 = omega arith in
     let before : SoFar c.args.turns (unix_of c.args.flat.now) (unix_of c.loop-made.flat) 0 c.loop-made.made g.S.Source.left g.K.Sink.grew c.loop-made.input c.args.output.now c.loop-made.output =
-        subst (λ rest. SoFar c.args.turns (unix_of c.args.flat.now) (unix_of c.loop-made.flat) rest c.loop-made.made g.S.Source.left g.K.Sink.grew c.loop-made.input c.args.output.now c.loop-made.output) none (c.loop-made.invariant.so_far told) in
+    subst (λ rest. SoFar c.args.turns (unix_of c.args.flat.now) (unix_of c.loop-made.flat) rest c.loop-made.made g.S.Source.left g.K.Sink.grew c.loop-made.input c.args.output.now c.loop-made.output) none (c.loop-made.invariant.so_far told) in
     let spent = so_far-spent c.args.turns (unix_of c.args.flat.now) g.S.Source.left g.K.Sink.grew c.args.output.now (unix_of c.loop-made.flat) c.loop-made.made c.loop-made.input c.loop-made.output before (sym c.in-None-halted.ensures) in
     (spent.0, spent.1 ∙ all)
