@@ -10,7 +10,7 @@ use Rattle.unix_model.specs.Words.{Command, Once}
 use Rattle.keynix.specs.declared.ending.Ending.{Ending}
 use Rattle.keynix.specs.declared.ending.Ending.TheVariants.{Halted, TurnsSpent, Usage, Refused, ReadFault, WriteFault, NoMemory}
 use Rattle.keynix.specs.Endings.{Ends, IsCaused, RunsOn, RefusesAs, RunsWhole, refusal_view}
-use Rattle.keynix.specs.Promises.{Answers, ByCommand, HaltsOn, SpendsOn, RefusesOn, boot_of, stop_status}
+use Rattle.keynix.specs.Promises.{Answers, ByCommand, HaltsOn, PutsPartOfNote, SpendsOn, RefusesOn, boot_of, stop_status}
 use Rattle.keynix.specs.Telling.{Tells, TakesMemory, ending_note, ending_status, refusal_note, usage_note, read_fault_note, no_memory_note}
 
 -- a status that no failed note gives is the ending's, and its note was put
@@ -134,6 +134,14 @@ module _ {S K E : Type 0} (left : S → Option (List ℕ)) (grew : K → List �
         by : Tells noted rose answers.ending notes_old notes_new status → write ⊎ rose
         by (inl told) = inl (written answers.ending answers.follows (sym told.0 ∙ e))
         by (inr (inl told)) = inr told.1
+        by (inr (inr told)) = absurd (omega (arith, told.0, e))
+
+    pub note-part-told : ((a b : E) (x : List ℕ) → noted a x b → GrewByPrefix noted a x b) → status ≡ 4 → PutsPartOfNote noted notes_old notes_new
+    note-part-told whole e = by answers.told
+      where
+        by : Tells noted rose answers.ending notes_old notes_new status → PutsPartOfNote noted notes_old notes_new
+        by (inl told) = (answers.ending, whole notes_old notes_new _ told.1)
+        by (inr (inl told)) = told.2
         by (inr (inr told)) = absurd (omega (arith, told.0, e))
 
     -- host memory ran out

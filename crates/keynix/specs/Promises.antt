@@ -10,7 +10,7 @@ use Rattle.unix_model.specs.Words.{Command, Once, default_pages, default_quantum
 use Rattle.keynix.specs.declared.ending.Ending.{Ending}
 use Rattle.keynix.specs.declared.ending.Ending.TheVariants.{Usage}
 use Rattle.keynix.specs.Endings.{Ends, IsCaused, RunsWhole}
-use Rattle.keynix.specs.Telling.{Tells, refusal_note}
+use Rattle.keynix.specs.Telling.{Tells, ending_note, refusal_note}
 
 -- the machine that an input boots
 abbrev pub boot_of : List ℕ → Result Unix Refusal
@@ -44,6 +44,10 @@ pub record RefusesOn {K E : Type 0} (command : Option Command) (bytes : List ℕ
   pub boots : boot_of bytes ≡ Err refusal
   pub output_stays : output_new ≡ output_old
   pub notes_grew : noted notes_old (refusal_note refusal) notes_new
+
+-- the notes got a front of one note, or all of it
+abbrev pub PutsPartOfNote : {E : Type 0} → (E → List ℕ → E → Type 0) → E → E → Type 0
+PutsPartOfNote noted old new = (ending : Ending) × GrewByPrefix noted old (ending_note ending) new
 
 -- the status of a run that ended so
 abbrev pub stop_status : Stop → ℕ

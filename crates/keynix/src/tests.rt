@@ -283,8 +283,23 @@ fn faults_have_their_statuses(rt: HostRuntime) -> Result<(), Fail> {
 }
 
 #[test]
+fn turns_are_counted_by_the_option(rt: HostRuntime) -> Result<(), Fail> {
+    for (option, status, note) in [
+        ("--turns=0", 9, "turns spent 0\n"),
+        ("--turns=8", 9, "turns spent 8\n"),
+        ("--turns=9", 0, "halted 7\n"),
+        ("--turns=1000000000000", 0, "halted 7\n"),
+    ] {
+        let left = run(rt.alloc(), &["d", "once", option], &EXIT_7)?;
+        assert_eq!(rt; left.notes.as_slice(), note.as_bytes());
+        assert_eq!(rt; (left.status, left.output.len()), (status, 0));
+    }
+    Ok(())
+}
+
+#[test]
 fn words_outside_the_grammar_are_usage(rt: HostRuntime) -> Result<(), Fail> {
-    let outside: [&[&str]; 7] = [
+    let outside: [&[&str]; 19] = [
         &[],
         &["d"],
         &["", "once"],
@@ -292,10 +307,22 @@ fn words_outside_the_grammar_are_usage(rt: HostRuntime) -> Result<(), Fail> {
         &["d", "twice"],
         &["d", "once", "once"],
         &["d", "--help"],
+        &["d", "once", ""],
+        &["d", "once", "--turns"],
+        &["d", "once", "--turns="],
+        &["d", "once", "--turns=07"],
+        &["d", "once", "--turns=00"],
+        &["d", "once", "--turns=+1"],
+        &["d", "once", "--turns=-1"],
+        &["d", "once", "--turns=1 "],
+        &["d", "once", "--turns=1000000000001"],
+        &["d", "once", "--turns=18446744073709551617"],
+        &["d", "once", "--turns=1", "--turns=1"],
+        &["d", "once", "--pages=64"],
     ];
     for words in outside {
         let left = run(rt.alloc(), words, &EXIT_7)?;
-        assert_eq!(rt; left.status, 1);
+        assert_eq!(rt; (left.status, left.output.len()), (1, 0));
         assert_eq!(rt;
             left.notes.as_slice(),
             b"usage: keynix DISK COMMAND [--name=value]\n".as_slice()

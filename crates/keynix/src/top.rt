@@ -7,7 +7,7 @@ ghost use Rattle.unix_model.specs.Boot.{Refusal};
 ghost use Rattle.unix_model.specs.Schedule.{Round, unix_run};
 ghost use Rattle.unix_model.specs.State.{Unix};
 ghost use Rattle.unix_model.specs.Words.{Once, command_of};
-ghost use Rattle.keynix.specs.Promises.{Answers, HaltsOn, RefusesOn, SpendsOn, boot_of, stop_status};
+ghost use Rattle.keynix.specs.Promises.{Answers, HaltsOn, PutsPartOfNote, RefusesOn, SpendsOn, boot_of, stop_status};
 ghost use Rattle.keynix.specs.Telling.{no_memory_note, read_fault_note, usage_note};
 
 use crate::ending::Ending;
@@ -65,6 +65,7 @@ pub fn keynix<S: Source, K: Sink, E: Sink>(
     // Faults, each with its cause, and want of memory.
     ensures read_fault { result.0 ≡ 3 → Rose (S.faults input.old) (S.faults input.new) × E.grew notes.old read_fault_note notes.new }
     ensures write_fault { result.0 ≡ 4 → Rose (K.faults output.old) (K.faults output.new) ⊎ Rose (E.faults notes.old) (E.faults notes.new) }
+    ensures write_fault_note { result.0 ≡ 4 → PutsPartOfNote E.grew notes.old notes.new }
     ensures no_memory { result.0 ≡ 6 → E.grew notes.old no_memory_note notes.new }
     ensures part { (turns : ℕ) (bytes : List ℕ) (unix : Unix) → command_of (map string_bytes words.now) ≡ Some (Once turns) → S.left input.old ≡ Some bytes → boot_of bytes ≡ Ok unix
         → GrewByPrefix K.grew output.old (unix_run turns unix Round []).put output.new }

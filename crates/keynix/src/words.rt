@@ -1,8 +1,8 @@
 //! The words of the command line.
 
-ghost use Rattle.std.specs.Prelude.{◌≡◌, map, option_map, string_bytes};
+ghost use Rattle.std.specs.Prelude.{◌≡◌, Some, codes, map, option_map, string_bytes};
 ghost use Rattle.unix_model.specs.Words as model;
-ghost use Rattle.keynix.specs.WordsView.{command_view};
+ghost use Rattle.keynix.specs.WordsView.{IsCut, command_view, options_view};
 
 /// A command with its options.
 #[derive(Clone, Copy, Debug, PartialEq, Eq)]
@@ -11,8 +11,19 @@ pub enum Command {
     Once(u64),
 }
 
-/// The turns of a run where no option says how many.
+/// The options of a command that were given.
+#[derive(Clone, Copy, Debug, PartialEq, Eq)]
+pub struct Options {
+    pub turns: Option<u64>,
+}
+
+/// The turns of a run where no option says how many, and the most that one may say.
 const DEFAULT_TURNS: u64 = 100_000_000;
+
+const MOST_TURNS: u64 = 1_000_000_000_000;
+
+/// Where a number that is too large is cut while it is read.
+const TOO_LARGE: u64 = 10_000_000_000_000;
 
 /// Whether a word can name a disk: it isn't empty and doesn't begin with `-`.
 fn is_disk(word: &str) -> bool
@@ -24,13 +35,94 @@ fn is_disk(word: &str) -> bool
     }
 }
 
-/// The command of a word.
+/// The number that digits spell, cut where it is too large; None where a byte is no digit.
+fn digits(text: &[u8]) -> Option<u64>
+    ensures { IsCut (model.digits_after 0 text.now) result }
+{
+    let mut number = 0;
+    for byte in text {
+        if !byte.is_ascii_digit() {
+            return None;
+        }
+        number = (10 * number + u64::from(byte - b'0')).min(TOO_LARGE);
+    }
+    Some(number)
+}
+
+/// The number of turns that a text spells: plain decimal, and not above the limit.
+#[tactic(auto, unfolding(unix_model::specs::Words::most_turns))]
+fn turns_of(text: &[u8]) -> Option<u64>
+    ensures { result ≡ model.number_of model.most_turns text.now }
+{
+    match text {
+        [] => None,
+        [b'0', _, ..] => None,
+        _ => match digits(text) {
+            Some(turns) => {
+                if turns <= MOST_TURNS {
+                    Some(turns)
+                } else {
+                    None
+                }
+            }
+            None => None,
+        },
+    }
+}
+
+/// What follows `--turns=` in a word.
+fn after_turns(word: &[u8]) -> Option<&[u8]>
+    ensures { option_map (λ text. text.now) result ≡ model.after_prefix (codes "--turns=") word.now }
+{
+    match word {
+        [b'-', b'-', b't', b'u', b'r', b'n', b's', b'=', text @ ..] => Some(text),
+        _ => None,
+    }
+}
+
+impl Options {
+    /// The options with one word more, where it is an option that wasn't given yet.
+    fn with_option(self, word: &[u8]) -> Option<Options>
+        ensures { option_map options_view result ≡ model.with_option (options_view self) word.now }
+    {
+        if self.turns.is_some() {
+            return None;
+        }
+        let text = match after_turns(word) {
+            Some(text) => text,
+            None => return None,
+        };
+        match turns_of(text) {
+            Some(turns) => Some(Options { turns: Some(turns) }),
+            None => None,
+        }
+    }
+}
+
+/// The options that the words after a command give.
+fn read_options(words: &[String]) -> Option<Options>
+    ensures { option_map options_view result ≡ model.options_of (map string_bytes words.now) (Some model.no_options) }
+{
+    let mut options = Options { turns: None };
+    for word in words {
+        options = match options.with_option(word.as_bytes()) {
+            Some(options) => options,
+            None => return None,
+        };
+    }
+    Some(options)
+}
+
+/// The command of a word, with the words after it.
 #[tactic(auto, unfolding(unix_model::specs::Words::default_turns))]
-fn command_named(word: &str) -> Option<Command>
-    ensures { option_map command_view result ≡ model.command_named word.now }
+fn command_named(word: &str, words: &[String]) -> Option<Command>
+    ensures { option_map command_view result ≡ model.command_named word.now (map string_bytes words.now) }
 {
     if word == "once" {
-        Some(Command::Once(DEFAULT_TURNS))
+        match read_options(words) {
+            Some(options) => Some(Command::Once(options.turns.unwrap_or(DEFAULT_TURNS))),
+            None => None,
+        }
     } else {
         None
     }
@@ -41,9 +133,9 @@ pub fn parse(words: &[String]) -> Option<Command>
     ensures { option_map command_view result ≡ model.command_of (map string_bytes words.now) }
 {
     match words {
-        [disk, word] => {
+        [disk, word, words @ ..] => {
             if is_disk(disk.as_str()) {
-                command_named(word.as_str())
+                command_named(word.as_str(), words)
             } else {
                 None
             }
