@@ -2,5 +2,7 @@
 #![tactic(auto)]
 
 mod key;
+mod store;
 
-pub use key::{Key, NodeId, PageId};
+pub use key::{Key, NodeId, PageId, bytes_of, key_of};
+pub use store::{Counts, Store};
