@@ -1,0 +1,62 @@
+-- A memory in blocks: its sizes, a page or a key that is read, and a page or a key that is written.
+use Rattle.std.proofs.Common.{◌≡◌, ℕ, ◌+◌, ◌-◌, ◌*◌, ◌/◌, ◌%◌, ◌<◌, ◌≤◌, Option, Some, None, List, [], length, take, drop, get_or, set, ap, sym, ◌∙◌, refl, arith}
+use Rattle.std.proofs.lemmas.List.{length-take-le, length-drop, get_or-take, get_or-drop, get_or-set_same, drop-set-add, drop-set-lt, take-set-le}
+use Rattle.std.proofs.Math.Seq.{take-set-lt}
+use Rattle.kn_base.specs.declared.key.Key.{Key}
+use Rattle.kn_base.specs.Keys.{spelled_key}
+use Rattle.kn_base.specs.Rows.{part_at, overwritten, table}
+use Rattle.kn_base.specs.Memory.{Memory, memory_of, page_at, key_at, ChangesBlock}
+use Rattle.kn_base.proofs.RowLaws.{length-table, table-read, table-written}
+
+pub length-memory_pages : (pages : ℕ) (blocks : List (List ℕ)) → pages ≤ length blocks → length (memory_of pages blocks).pages ≡ pages
+unfolding memory_of
+length-memory_pages pages blocks h = length-take-le pages blocks h
+
+pub length-memory_keys : (pages : ℕ) (blocks : List (List ℕ)) → pages ≤ length blocks → 256 * length blocks ≡ 256 * pages + length (memory_of pages blocks).keys
+unfolding memory_of
+length-memory_keys pages blocks h =
+    omega (arith, length-table spelled_key 16 256 (drop pages blocks), length-drop pages blocks)
+
+-- the block in which a node stands is there
+pub node_block : (pages : ℕ) (blocks : List (List ℕ)) (node : ℕ) → pages ≤ length blocks → 16 * node < length (memory_of pages blocks).keys → pages + node / 16 < length blocks
+node_block pages blocks node h inside = omega (arith, length-memory_keys pages blocks h)
+
+pub page_at-memory_of : (pages : ℕ) (blocks : List (List ℕ)) (page : ℕ) → page < pages → page_at (memory_of pages blocks) page ≡ get_or blocks page []
+unfolding memory_of
+page_at-memory_of pages blocks page h = get_or-take pages blocks page [] h
+
+-- the key that the bytes at its place spell
+pub key_at-memory_of : (pages : ℕ) (blocks : List (List ℕ)) (node place : ℕ) → pages + node / 16 < length blocks → place < 16 → key_at (memory_of pages blocks) node place ≡ spelled_key (part_at (get_or blocks (pages + node / 16) []) (256 * (node % 16) + 16 * place) 16)
+unfolding memory_of
+key_at-memory_of pages blocks node place inside h =
+    table-read spelled_key 16 256 (drop pages blocks) (node / 16) (256 * (node % 16) + 16 * place) (16 * node + place) None
+    refl (omega (arith, length-drop pages blocks)) (omega arith) (omega arith)
+    ∙ ap (λ block. spelled_key (part_at block (256 * (node % 16) + 16 * place) 16)) (get_or-drop pages blocks (node / 16) [])
+
+-- a page is written
+pub memory_of-set_page : (pages : ℕ) (blocks : List (List ℕ)) (page : ℕ) (bytes : List ℕ) → page < pages → memory_of pages (set blocks page bytes) ≡ record (memory_of pages blocks) { pages = set (memory_of pages blocks).pages page bytes }
+unfolding memory_of
+memory_of-set_page pages blocks page bytes h =
+    ap (λ (list : List (List ℕ)). let m : Memory = record { pages = list; keys = table spelled_key 16 256 (drop pages (set blocks page bytes)) } in m)
+    (take-set-lt pages blocks page bytes h)
+    ∙ ap (λ (list : List (List ℕ)). let m : Memory = record { pages = set (take pages blocks) page bytes; keys = table spelled_key 16 256 list } in m)
+    (drop-set-lt pages blocks page bytes h)
+
+-- a key is written
+pub memory_of-set_key : (pages : ℕ) (blocks : List (List ℕ)) (node place : ℕ) (bytes : List ℕ) (key : Key) → pages + node / 16 < length blocks → place < 16 → length (get_or blocks (pages + node / 16) []) ≡ 4096 → length bytes ≡ 16 → spelled_key bytes ≡ Some key → memory_of pages (set blocks (pages + node / 16) (overwritten (get_or blocks (pages + node / 16) []) (256 * (node % 16) + 16 * place) bytes)) ≡ record (memory_of pages blocks) { keys = set (memory_of pages blocks).keys (16 * node + place) (Some key) }
+unfolding memory_of
+memory_of-set_key pages blocks node place bytes key inside h whole sixteen spelled =
+    let at : ℕ = 256 * (node % 16) + 16 * place in
+    let old = get_or-drop pages blocks (node / 16) [] in
+    ap (λ (list : List (List ℕ)). let m : Memory = record { pages = list; keys = table spelled_key 16 256 (drop pages (set blocks (pages + node / 16) (overwritten (get_or blocks (pages + node / 16) []) at bytes))) } in m)
+    (take-set-le pages blocks (pages + node / 16) (overwritten (get_or blocks (pages + node / 16) []) at bytes) (omega arith))
+    ∙ ap (λ (list : List (Option Key)). let m : Memory = record { pages = take pages blocks; keys = list } in m)
+    (ap (table spelled_key 16 256)
+    (drop-set-add pages blocks (node / 16) (overwritten (get_or blocks (pages + node / 16) []) at bytes)
+    ∙ ap (λ block. set (drop pages blocks) (node / 16) (overwritten block at bytes)) (sym old))
+    ∙ table-written spelled_key 16 256 (drop pages blocks) (node / 16) at (16 * node + place) bytes (Some key) refl
+    (omega (arith, length-drop pages blocks)) (ap length old ∙ whole) (omega arith) (omega arith) sixteen spelled)
+
+-- one block is written
+pub set-changes_block : (blocks : List (List ℕ)) (block : ℕ) (bytes : List ℕ) → block < length blocks → ChangesBlock blocks (set blocks block bytes) block
+set-changes_block blocks block bytes h = ap (set blocks block) (sym (get_or-set_same blocks block bytes [] h))
