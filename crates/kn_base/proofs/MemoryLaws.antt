@@ -1,11 +1,12 @@
 -- A memory in blocks: its sizes, a page or a key that is read, and a page or a key that is written.
-use Rattle.std.proofs.Common.{◌≡◌, ℕ, ◌+◌, ◌-◌, ◌*◌, ◌/◌, ◌%◌, ◌<◌, ◌≤◌, Option, Some, None, List, [], length, take, drop, get_or, set, ap, sym, ◌∙◌, refl, arith}
-use Rattle.std.proofs.lemmas.List.{length-take-le, length-drop, get_or-take, get_or-drop, get_or-set_same, drop-set-add, drop-set-lt, take-set-le}
+use Rattle.std.proofs.Common.{◌≡◌, ℕ, ◌+◌, ◌*◌, ◌/◌, ◌%◌, ◌<◌, ◌≤◌, Option, Some, None, List, [], length, take, drop, get_or, set, ap, sym, ◌∙◌, refl, arith, ⊎_elim, replicate}
+use Rattle.std.proofs.lemmas.List.{length-take, length-take-le, length-replicate, get_or-replicate, get_or_past, length-drop, get_or-take, get_or-drop, get_or-set_same, drop-set-add, drop-set-lt, take-set-le}
+use Rattle.std.proofs.lemmas.Bool.{cases_lt}
 use Rattle.std.proofs.Math.Seq.{take-set-lt}
 use Rattle.kn_base.specs.declared.key.Key.{Key}
 use Rattle.kn_base.specs.Keys.{spelled_key}
 use Rattle.kn_base.specs.Rows.{part_at, overwritten, table}
-use Rattle.kn_base.specs.Memory.{Memory, memory_of, page_at, key_at, ChangesBlock}
+use Rattle.kn_base.specs.Memory.{Memory, memory_of, page_at, key_at, zero_page, ChangesBlock}
 use Rattle.kn_base.proofs.RowLaws.{length-table, table-read, table-written}
 
 pub length-memory_pages : (pages : ℕ) (blocks : List (List ℕ)) → pages ≤ length blocks → length (memory_of pages blocks).pages ≡ pages
@@ -60,3 +61,30 @@ memory_of-set_key pages blocks node place bytes key inside h whole sixteen spell
 -- one block is written
 pub set-changes_block : (blocks : List (List ℕ)) (block : ℕ) (bytes : List ℕ) → block < length blocks → ChangesBlock blocks (set blocks block bytes) block
 set-changes_block blocks block bytes h = ap (set blocks block) (sym (get_or-set_same blocks block bytes [] h))
+
+-- a page of zeros
+pub length-zero_page : length zero_page ≡ 4096
+unfolding zero_page
+length-zero_page = length-replicate {A = ℕ} 4096 0
+
+get_or-zeros : (n i : ℕ) → get_or {A = ℕ} (replicate n 0) i 0 ≡ 0
+get_or-zeros n i =
+    ⊎_elim (λ inside. get_or-replicate n i 0 0 inside)
+    (λ past. get_or_past (replicate n 0) i 0 (omega (arith, length-replicate {A = ℕ} n 0))) (cases_lt i n)
+
+pub get_or-zero_page : (place : ℕ) → get_or zero_page place 0 ≡ 0
+unfolding zero_page
+get_or-zero_page place = get_or-zeros 4096 place
+
+-- no page stands past the last
+page_at-past : (pages : ℕ) (blocks : List (List ℕ)) (page : ℕ) → pages ≤ page → page_at (memory_of pages blocks) page ≡ []
+unfolding memory_of
+page_at-past pages blocks page past =
+    get_or_past (take pages blocks) page [] (omega (arith, length-take pages blocks))
+
+-- the pages of blocks of bytes hold bytes
+pub page_bytes : (pages : ℕ) (blocks : List (List ℕ)) → ((block place : ℕ) → get_or (get_or blocks block []) place 0 < 256) → (page place : ℕ) → get_or (page_at (memory_of pages blocks) page) place 0 < 256
+page_bytes pages blocks bytes page place =
+    ⊎_elim
+    (λ (inside : page < pages). rw (page_at-memory_of pages blocks page inside) (bytes page place))
+    (λ (past : pages ≤ page). rw (page_at-past pages blocks page past) (omega arith)) (cases_lt page pages)

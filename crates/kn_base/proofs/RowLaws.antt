@@ -2,11 +2,9 @@
 use Rattle.std.proofs.Common.{◌≡◌, ◌≢◌, ℕ, ◌+◌, ◌-◌, ◌*◌, ◌<◌, ◌≤◌, zero, suc, List, [], ◌∷◌, ◌++◌, length, take, drop, map, get_or, set, refl, ap, sym, ◌∙◌, arith, rules, zero-add, add-zero, ⊎_elim, ◌⊎◌}
 use Rattle.std.proofs.Math.Nat.{mul-le-mul_left, mul-suc, mul-zero, zero-mul}
 use Rattle.std.proofs.Math.Seq.{take-set-lt}
-use Rattle.std.proofs.lemmas.Grind.{common_steps}
 use Rattle.std.proofs.lemmas.List.{places, same_lists, length-set, length-take, length-drop, length-append, get_or-set_same, get_or-set_other, get_or-take, get_or-drop, get_or-append_right, get_or_append_left, set-append_left, set-append_right, drop-set-add, drop-set-lt, take-set-le, append-nil, take-append-drop, length_push, get_or_push}
 use Rattle.std.proofs.lemmas.List.FromFn.{length-map-range_with_len, get_or-map-range_with_len}
 use Rattle.std.proofs.lemmas.Bool.{cases_lt, cases_eq}
-use Rattle.std.specs.List.{range_with_len, flat_map}
 use Rattle.kn_base.specs.Rows.{part_at, overwritten, rows, table, table_at}
 
 pub length-overwritten : {X : Type 0} (xs : List X) (place : ℕ) (part : List X) → place + length part ≤ length xs → length (overwritten xs place part) ≡ length xs

@@ -1,7 +1,7 @@
 -- How a key is spelled in sixteen bytes, and which key sixteen bytes spell. Byte 0 is the number of the kind, byte 1 the
 -- side byte, bytes 2 and 3 are zero, and bytes 4 to 15 are the body. Numbers stand with their lowest byte first. What a
 -- kind does not use is zero; any other bytes spell no key.
-use Rattle.std.specs.Prelude.{◌≡◌, ◌==◌, ◌<◌, ◌^◌, ℕ, Bool, Option, Some, None, List, [], ◌∷◌, ◌++◌, length, All, drop, if◌then◌else◌, option_and_then, replicate, slice_get, slice_index, ⊤}
+use Rattle.std.specs.Prelude.{◌≡◌, ◌==◌, ◌<◌, ◌^◌, ℕ, Option, Some, None, List, [], ◌∷◌, ◌++◌, length, drop, if◌then◌else◌, replicate, slice_get, slice_index, ⊤}
 use Rattle.std.specs.Int.{to_le_bytes, from_le_bytes, w32, w64}
 use Rattle.std.specs.Str.{bytes_eq}
 use Rattle.kn_base.specs.declared.key.Key.{Key}

@@ -1,0 +1,8 @@
+use Rattle.obj_store.proofs.Blocks.{zero_blocks-whole, zero_blocks-bytes}
+use Rattle.obj_store.proofs.ram.RamStore.new.Goals as goal
+
+pub invariant_of-result-clause-whole : goal.invariant_of-result-clause-whole
+invariant_of-result-clause-whole c = zero_blocks-whole _ c.in-Ok.blocks.items c.in-Ok.ensures
+
+pub invariant_of-result-clause-bytes : goal.invariant_of-result-clause-bytes
+invariant_of-result-clause-bytes c = zero_blocks-bytes _ c.in-Ok.blocks.items c.in-Ok.ensures
