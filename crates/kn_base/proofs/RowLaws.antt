@@ -2,7 +2,7 @@
 use Rattle.std.proofs.Common.{◌≡◌, ◌≢◌, ℕ, ◌+◌, ◌-◌, ◌*◌, ◌<◌, ◌≤◌, zero, suc, List, [], ◌∷◌, ◌++◌, length, take, drop, map, get_or, set, refl, ap, sym, ◌∙◌, arith, rules, zero-add, add-zero, ⊎_elim, ◌⊎◌}
 use Rattle.std.proofs.Math.Nat.{mul-le-mul_left, mul-suc, mul-zero, zero-mul}
 use Rattle.std.proofs.Math.Seq.{take-set-lt}
-use Rattle.std.proofs.lemmas.List.{places, same_lists, length-set, length-take, length-drop, length-append, get_or-set_same, get_or-set_other, get_or-take, get_or-drop, get_or-append_right, get_or_append_left, set-append_left, set-append_right, drop-set-add, drop-set-lt, take-set-le, append-nil, take-append-drop, length_push, get_or_push}
+use Rattle.std.proofs.lemmas.List.{places, same_lists, length-set, length-take, length-drop, length-append, get_or-set_same, get_or-set_other, get_or-take, get_or-drop, get_or-append_right, get_or_append_left, set-append_left, set-append_right, drop-set-add, drop-set-lt, take-set-le, append-nil, take-append-drop, length_push, get_or_push, length-replicate, replicate_more, take_more}
 use Rattle.std.proofs.lemmas.List.FromFn.{length-map-range_with_len, get_or-map-range_with_len}
 use Rattle.std.proofs.lemmas.Bool.{cases_lt, cases_eq}
 use Rattle.kn_base.specs.Rows.{part_at, overwritten, rows, table, table_at}
@@ -39,6 +39,12 @@ part_at-overwritten_above xs place part from n h above = same_lists _ _ (search 
 
 pub length-part_at : {X : Type 0} (xs : List X) (place n : ℕ) → place + n ≤ length xs → length (part_at xs place n) ≡ n
 length-part_at xs place n h = grind (arith, places)
+
+pub part_at-more : {X : Type 0} (xs : List X) (place n : ℕ) (x d : X) → place + n < length xs → get_or xs (place + n) d ≡ x → part_at xs place n ++ x ∷ [] ≡ part_at xs place (n + 1)
+part_at-more xs place n x d h read =
+    sym
+    (take_more (drop place xs) n d (omega (arith, length-drop place xs))
+    ∙ ap (λ y. take n (drop place xs) ++ y ∷ []) (get_or-drop place xs n d ∙ read))
 
 -- a part of no elements, and a part that grows at its end
 pub overwritten-none : {X : Type 0} (xs : List X) (place : ℕ) → overwritten xs place [] ≡ xs
@@ -271,7 +277,7 @@ unfolding table_at
 table_at-above decode size per_page first count pages page new above =
     ap (table decode size per_page) (part_at-set_above pages first count page new above)
 
--- what was written, and what stands beside it
+-- what was written, what stands beside it, and parts that grow at their end
 pub ruleset writes = (
   length-overwritten,
   get_or-overwritten_in,
@@ -282,6 +288,12 @@ pub ruleset writes = (
   part_at-overwritten_above,
   overwritten-none,
   overwritten-more,
+  length-part_at,
+  length-replicate,
+  replicate_more,
+  get_or-set_same,
+  get_or-set_other,
+  length-set,
 )
 
 -- the rows of tables

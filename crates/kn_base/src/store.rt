@@ -1,6 +1,6 @@
 //! The store: pages of bytes and nodes of sixteen keys.
 
-ghost use Rattle.std.specs.Prelude.{◌≡◌, ◌≢◌, ◌<◌, ◌≤◌, ◌+◌, ◌*◌, ◌/◌, ◌↔◌, ℕ, Some, List, [], length, IsTrue, IsSome, slice_index, slice_index_or, slice_set};
+ghost use Rattle.std.specs.Prelude.{◌≡◌, ◌≢◌, ◌<◌, ◌≤◌, ◌+◌, ◌*◌, ◌/◌, ◌^◌, ◌↔◌, ℕ, Some, List, [], length, IsTrue, IsSome, slice_index, slice_index_or, slice_set};
 ghost use Rattle.kn_base.specs.Rows.{part_at, overwritten};
 ghost use Rattle.kn_base.specs.Memory.{Memory, page_at, key_at, zero_page, memory_of, ChangesBlock};
 
@@ -86,6 +86,11 @@ pub trait Store {
 
     /// The pages and keys are those of the blocks.
     ghost tied: { (s : Self) → memory s ≡ memory_of (length (memory s).pages) (blocks s) };
+
+    /// Pages and nodes are numbered in 32 bits.
+    ghost page_numbers: { (s : Self) → length (memory s).pages < 2 ^ 32 };
+
+    ghost node_numbers: { (s : Self) → length (memory s).keys < 2 ^ 36 };
 
     /// Each block that is no page holds 256 keys.
     ghost key_count: { (s : Self) → 256 * length (blocks s) ≡ 256 * length (memory s).pages + length (memory s).keys };

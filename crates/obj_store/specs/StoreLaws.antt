@@ -1,5 +1,5 @@
 -- The laws of a store, for the store in memory.
-use Rattle.std.specs.Prelude.{◌≡◌, ◌<◌, ◌≤◌, ◌+◌, ◌*◌, ◌/◌, ℕ, length, vec_len, slice_index}
+use Rattle.std.specs.Prelude.{◌≡◌, ◌<◌, ◌≤◌, ◌+◌, ◌*◌, ◌/◌, ◌^◌, ℕ, length, vec_len, slice_index}
 use Rattle.std.proofs.Common.{arith, sym, ap, ◌∙◌, refl}
 use Rattle.kn_base.specs.Memory.{memory_of, page_at}
 use Rattle.kn_base.proofs.MemoryLaws.{length-memory_pages, length-memory_keys, page_at-memory_of, page_bytes, node_block}
@@ -58,3 +58,10 @@ pub ram-nodes : (s : RamStore) → 16 * s.nodes ≡ length (ram_memory s).keys
 ram-nodes s =
     let sizes : 16 * vec_len s.blocks ≡ 16 * s.pages + s.nodes = s.counted in
     omega (arith, s.blocks.ok, ram-key_count s, length-memory_pages s.pages s.blocks.items (pages_inside s))
+
+-- pages and nodes are numbered in 32 bits
+pub ram-page_numbers : (s : RamStore) → length (ram_memory s).pages < 2 ^ 32
+ram-page_numbers s = omega (arith, ram-pages s, pages_inside s, s.few, s.blocks.ok)
+
+pub ram-node_numbers : (s : RamStore) → length (ram_memory s).keys < 2 ^ 36
+ram-node_numbers s = omega (arith, ram-nodes s, s.few_nodes)

@@ -21,6 +21,7 @@ pub struct RamStore {
     ghost marks: { vec_len dirty ≡ vec_len blocks },
     ghost counted: { 16 * vec_len blocks ≡ 16 * pages + nodes },
     ghost few: { vec_len blocks < 2 ^ 32 },
+    ghost few_nodes: { nodes < 2 ^ 32 },
     ghost whole: { (block : ℕ) → block < length blocks.items → length (slice_index_or blocks.items block []) ≡ 4096 },
     ghost bytes: { (block place : ℕ) → slice_index (slice_index_or blocks.items block []) place < 256 },
 }
@@ -260,6 +261,10 @@ impl Store for RamStore {
     }
 
     ghost tied = { laws.ram-tied };
+
+    ghost page_numbers = { laws.ram-page_numbers };
+
+    ghost node_numbers = { laws.ram-node_numbers };
 
     ghost key_count = { laws.ram-key_count };
 
