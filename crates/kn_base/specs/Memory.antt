@@ -1,8 +1,8 @@
 -- What a store holds: pages of bytes and one flat list of keys.
-use Rattle.std.specs.Prelude.{◌≡◌, ℕ, ◌+◌, ◌*◌, Option, None, List, [], take, drop, replicate, slice_index_or, slice_set}
+use Rattle.std.specs.Prelude.{◌≡◌, ℕ, ◌+◌, ◌*◌, ◌/◌, ◌%◌, Option, None, List, [], take, drop, replicate, slice_index_or, slice_set}
 use Rattle.kn_base.specs.declared.key.Key.{Key}
-use Rattle.kn_base.specs.Keys.{spelled_key}
-use Rattle.kn_base.specs.Rows.{table}
+use Rattle.kn_base.specs.Keys.{spelling, spelled_key}
+use Rattle.kn_base.specs.Rows.{overwritten, table}
 
 -- Pages of 4,096 bytes, and the keys of all nodes: key k of node n stands at place 16 * n + k, and is None where the
 -- sixteen bytes there spell no key.
@@ -26,6 +26,13 @@ zero_page = replicate 4096 0
 -- sixteen keys
 unfoldable pub memory_of : ℕ → List (List ℕ) → Memory
 memory_of pages blocks = record { pages = take pages blocks; keys = table spelled_key 16 256 (drop pages blocks) }
+
+-- blocks in which a key was written at a place of a node, and no other byte
+unfoldable pub with_key_bytes : List (List ℕ) → ℕ → ℕ → ℕ → Key → List (List ℕ)
+with_key_bytes blocks pages node place key =
+    let block = pages + node / 16 in
+    slice_set blocks block
+    (overwritten (slice_index_or blocks block []) (256 * (node % 16) + 16 * place) (spelling key))
 
 -- no block but this one has changed
 abbrev pub ChangesBlock : List (List ℕ) → List (List ℕ) → ℕ → Type 0

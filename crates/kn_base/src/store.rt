@@ -2,7 +2,7 @@
 
 ghost use Rattle.std.specs.Prelude.{◌≡◌, ◌≢◌, ◌<◌, ◌≤◌, ◌+◌, ◌*◌, ◌/◌, ◌^◌, ◌↔◌, ℕ, Some, List, [], length, IsTrue, IsSome, slice_index, slice_index_or, slice_set};
 ghost use Rattle.kn_base.specs.Rows.{part_at, overwritten};
-ghost use Rattle.kn_base.specs.Memory.{Memory, page_at, key_at, zero_page, memory_of, ChangesBlock};
+ghost use Rattle.kn_base.specs.Memory.{Memory, page_at, key_at, zero_page, memory_of, with_key_bytes, ChangesBlock};
 
 use super::{Key, NodeId, PageId};
 
@@ -51,6 +51,7 @@ pub trait Store {
         requires node { 16 * node.0 < length (memory self.old).keys }
         requires place { place < 16 }
         ensures written { memory self.new ≡ record (memory self.old) { keys = slice_set (memory self.old).keys (16 * node.0 + place) (Some key) } }
+        ensures bytes { blocks self.new ≡ with_key_bytes (blocks self.old) (length (memory self.old).pages) node.0 place key }
         ensures one_block { ChangesBlock (blocks self.old) (blocks self.new) (length (memory self.old).pages + node.0 / 16) }
         ensures keeps { keeps self.old self.new };
 

@@ -2,14 +2,14 @@
 use Rattle.std.proofs.Common.{◌≡◌, ◌≢◌, ℕ, ◌+◌, ◌*◌, ◌/◌, ◌%◌, ◌<◌, Bool, true, false, List, [], Some, length, get_or, set, ap, sym, ◌∙◌}
 use Rattle.std.proofs.lemmas.List.{get_or-set_same, get_or-set_other}
 use Rattle.kn_base.specs.declared.key.Key.{Key}
-use Rattle.kn_base.specs.Keys.{spelled_key}
+use Rattle.kn_base.specs.Keys.{spelling, spelled_key}
 use Rattle.kn_base.specs.Rows.{overwritten}
-use Rattle.kn_base.specs.Memory.{Memory, memory_of, page_at, ChangesBlock}
+use Rattle.kn_base.specs.Memory.{Memory, memory_of, page_at, with_key_bytes, ChangesBlock}
 use Rattle.kn_base.proofs.MemoryLaws.{page_at-memory_of, memory_of-set_page, memory_of-set_key, set-changes_block}
 use Rattle.obj_store.specs.declared.ram.RamStore.{RamStore}
 use Rattle.obj_store.specs.Ram.{Ram, with_block, KeepsMarks}
 use Rattle.obj_store.specs.Store.{ram_of, ram_memory}
-use Rattle.obj_store.specs.StoreLaws.{page_counted, node_inside}
+use Rattle.obj_store.specs.StoreLaws.{page_counted, node_inside, ram-pages}
 
 -- the memory in a record
 abbrev memory_in : Ram → Memory
@@ -40,6 +40,19 @@ key_written old new node place number at bytes key h low block offset sixteen sp
     offset)
     ∙ memory_of-set_key old.pages old.blocks.items node place bytes key inside low
     (old.whole (old.pages + node / 16) inside) sixteen spelled
+
+pub key_bytes_written : (old new : RamStore) (node place number at : ℕ) (bytes : List ℕ) (key : Key) → number ≡ old.pages + node / 16 → at ≡ 256 * (node % 16) + 16 * place → bytes ≡ spelling key → ram_of new ≡ with_block (ram_of old) number (overwritten (get_or old.blocks.items number []) at bytes) → new.blocks.items ≡ with_key_bytes old.blocks.items (length (ram_memory old).pages) node place key
+unfolding with_key_bytes
+key_bytes_written old new node place number at bytes key block offset spelled e =
+    let count : old.pages + node / 16 ≡ length (ram_memory old).pages + node / 16 =
+        ap (λ n. n + node / 16) (ram-pages old)
+    in
+    ap (λ ram. ram.blocks) e
+    ∙ ap (λ part. set old.blocks.items number (overwritten (get_or old.blocks.items number []) at part)) spelled
+    ∙ ap (λ a. set old.blocks.items number (overwritten (get_or old.blocks.items number []) a (spelling key))) offset
+    ∙ ap
+    (λ b. set old.blocks.items b (overwritten (get_or old.blocks.items b []) (256 * (node % 16) + 16 * place) (spelling key)))
+    (block ∙ count)
 
 -- one block is written
 pub block_changed : (old new : Ram) (number : ℕ) (bytes : List ℕ) → number < length old.blocks → new ≡ with_block old number bytes → ChangesBlock old.blocks new.blocks number

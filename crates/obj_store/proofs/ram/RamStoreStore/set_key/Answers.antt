@@ -2,7 +2,7 @@ use Rattle.std.proofs.Common.{◌≡◌, ap, subst, ◌∙◌, ◌+◌, ◌/◌,
 use Rattle.kn_base.specs.Memory.{ChangesBlock}
 use Rattle.obj_store.specs.Store.{ram_of, ram_memory}
 use Rattle.obj_store.specs.StoreLaws.{ram-pages}
-use Rattle.obj_store.proofs.Pages.{key_written, block_changed}
+use Rattle.obj_store.proofs.Pages.{key_written, key_bytes_written, block_changed}
 use Rattle.obj_store.proofs.ram.RamStoreStore.set_key.Goals as goal
 
 -- the bytes that are put spell the key
@@ -12,6 +12,11 @@ returns-clause-written c =
     key_written c.args.self.now c.put.new.self c.args.node.0 c.args.place c.block_of-number.result c.key_offset.result
     c.bytes_of.result c.args.key c.requires.node c.requires.place c.block_of-number.ensures.place c.key_offset.ensures sixteen
     c.bytes_of.ensures.read_back c.put.ensures
+
+pub returns-clause-bytes : goal.returns-clause-bytes
+returns-clause-bytes c =
+    key_bytes_written c.args.self.now c.put.new.self c.args.node.0 c.args.place c.block_of-number.result c.key_offset.result
+    c.bytes_of.result c.args.key c.block_of-number.ensures.place c.key_offset.ensures c.bytes_of.ensures.value c.put.ensures
 
 pub returns-clause-one_block : goal.returns-clause-one_block
 returns-clause-one_block c =
