@@ -298,12 +298,12 @@ pub ruleset writes = (
 
 -- the rows of tables
 pub ruleset tables = (
-    length-table_at,
-    table_at-read,
-    table_at-written,
-    table_at-below,
-    table_at-above,
-    length-set,
-    get_or-set_same,
-    get_or-set_other
+  length-table_at,
+  table_at-read,
+  table_at-written,
+  table_at-below,
+  table_at-above,
+  length-set,
+  get_or-set_same,
+  get_or-set_other,
 )
