@@ -45,7 +45,7 @@ pub key_bytes_written : (old new : RamStore) (node place number at : ℕ) (bytes
 unfolding with_key_bytes
 key_bytes_written old new node place number at bytes key block offset spelled e =
     let count : old.pages + node / 16 ≡ length (ram_memory old).pages + node / 16 =
-        ap (λ n. n + node / 16) (ram-pages old)
+    ap (λ n. n + node / 16) (ram-pages old)
     in
     ap (λ ram. ram.blocks) e
     ∙ ap (λ part. set old.blocks.items number (overwritten (get_or old.blocks.items number []) at part)) spelled

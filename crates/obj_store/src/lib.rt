@@ -2,5 +2,7 @@
 #![tactic(auto)]
 
 mod ram;
+#[cfg(test)]
+mod tests;
 
 pub use ram::{NoMemory, RamStore};

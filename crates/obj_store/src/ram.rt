@@ -127,9 +127,10 @@ impl RamStore {
         requires within { at + length from.now ≤ 4096 }
         ensures { ram_of self.new ≡ with_block (ram_of self.old) number (overwritten (slice_index_or (ram_of self.old).blocks number []) at from.now) }
     {
-        let block = &mut self.blocks[number as usize];
+        let place = number as usize;
+        let block = &mut self.blocks[place];
         block[at..at + from.len()].copy_from_slice(from);
-        self.dirty[number as usize] = true;
+        self.dirty[place] = true;
     }
 }
 
