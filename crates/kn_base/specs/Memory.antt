@@ -1,6 +1,7 @@
 -- What a store holds: pages of bytes and one flat list of keys.
-use Rattle.std.specs.Prelude.{◌≡◌, ℕ, ◌+◌, ◌*◌, ◌/◌, ◌%◌, Option, None, List, [], take, drop, replicate, slice_index_or, slice_set}
+use Rattle.std.specs.Prelude.{◌≡◌, ℕ, ◌+◌, ◌*◌, ◌/◌, ◌%◌, Option, Some, None, List, [], take, drop, replicate, slice_index_or, slice_set}
 use Rattle.kn_base.specs.declared.key.Key.{Key}
+use Rattle.kn_base.specs.declared.key.Key.TheVariants.{Null}
 use Rattle.kn_base.specs.Keys.{spelling, spelled_key}
 use Rattle.kn_base.specs.Rows.{overwritten, table}
 
@@ -21,6 +22,10 @@ key_at memory node place = slice_index_or memory.keys (16 * node + place) None
 -- a page of zeros
 unfoldable pub zero_page : List ℕ
 zero_page = replicate 4096 0
+
+-- so many pages of zeros, and so many nodes of Null keys
+unfoldable pub zero_memory : ℕ → ℕ → Memory
+zero_memory pages nodes = record { pages = replicate pages zero_page; keys = replicate (16 * nodes) (Some Null) }
 
 -- the memory in blocks of 4,096 bytes, of which the first are the pages and each other one holds sixteen nodes of
 -- sixteen keys

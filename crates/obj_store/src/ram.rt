@@ -48,15 +48,16 @@ fn zero_blocks(alloc: Global, count: u32) -> Result<Vec<[u8; 4096]>, AllocError>
 impl RamStore {
     ghost use Rattle.std.specs.Prelude.{◌≡◌, ◌<◌, ◌≤◌, ◌+◌, ◌*◌, ◌/◌, ◌%◌, ◌^◌, ℕ, true, false, [], length, replicate, slice_index_or, slice_set, IfOk};
     ghost use Rattle.kn_base.specs.Rows.{overwritten};
-    ghost use Rattle.kn_base.specs.Memory.{zero_page};
+    ghost use Rattle.kn_base.specs.Memory.{zero_page, Memory, zero_memory};
     ghost use Rattle.obj_store.specs.Ram.{Ram, with_block, zero_ram};
-    ghost use Rattle.obj_store.specs.Store.{ram_of};
+    ghost use Rattle.obj_store.specs.Store.{ram_of, ram_memory};
 
     /// A store of `pages` pages and `nodes` nodes, all zero, in which nothing is marked.
     pub fn new(alloc: Global, pages: u32, nodes: u32) -> Result<RamStore, NoMemory>
         requires whole_blocks { nodes % 16 ≡ 0 }
         requires size { pages + nodes / 16 < 2 ^ 32 }
-        ensures { IfOk result (λ store. ram_of store ≡ zero_ram pages nodes) }
+        ensures blocks { IfOk result (λ store. ram_of store ≡ zero_ram pages nodes) }
+        ensures memory { IfOk result (λ store. ram_memory store ≡ zero_memory pages nodes) }
     {
         let count = pages + nodes / 16;
         let blocks = match zero_blocks(alloc, count) {
