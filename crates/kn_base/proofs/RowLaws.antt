@@ -1,6 +1,6 @@
 -- What a written part leaves of a list, and what a written row leaves of a table.
-use Rattle.std.proofs.Common.{◌≡◌, ◌≢◌, ℕ, ◌+◌, ◌-◌, ◌*◌, ◌<◌, ◌≤◌, zero, suc, List, [], ◌∷◌, ◌++◌, length, take, drop, map, get_or, set, refl, ap, sym, ◌∙◌, arith, rules, zero-add, add-zero, ⊎_elim, ◌⊎◌}
-use Rattle.std.proofs.Math.Nat.{mul-le-mul_left, mul-suc, mul-zero, zero-mul}
+use Rattle.std.proofs.Common.{◌≡◌, ◌≢◌, ℕ, ◌+◌, ◌-◌, ◌*◌, ◌/◌, ◌%◌, ◌<◌, ◌≤◌, zero, suc, List, [], ◌∷◌, ◌++◌, length, take, drop, map, get_or, set, refl, ap, sym, ◌∙◌, arith, rules, zero-add, add-zero, ⊎_elim, ◌⊎◌}
+use Rattle.std.proofs.Math.Nat.{mul-le-mul_left, mul-suc, mul-zero, zero-mul, mul_comm, div-add-mod, mod-lt}
 use Rattle.std.proofs.Math.Seq.{take-set-lt}
 use Rattle.std.proofs.lemmas.List.{places, same_lists, length-set, length-take, length-drop, length-append, get_or-set_same, get_or-set_other, get_or-take, get_or-drop, get_or-append_right, get_or_append_left, set-append_left, set-append_right, drop-set-add, drop-set-lt, take-set-le, append-nil, take-append-drop, length_push, get_or_push, length-replicate, replicate_more, take_more}
 use Rattle.std.proofs.lemmas.List.FromFn.{length-map-range_with_len, get_or-map-range_with_len}
@@ -266,6 +266,27 @@ table_at-written decode size per_page first count pages page at n part x whole l
     (omega (arith, length-part_at pages first count in_pages)) (ap length bytes ∙ size_of_page) in_page place size_of_part
     spelled
 
+-- Row n where each page but the last is full: its page and its byte from its number.
+pub table_at-row : {X : Type 0} (decode : List ℕ → X) (size per_page first count : ℕ) (pages : List (List ℕ)) (n : ℕ) (d : X) → size * per_page ≡ 4096 → n < per_page * count → first + count ≤ length pages → get_or (table_at decode size per_page first count pages) n d ≡ decode (part_at (get_or pages (first + n / per_page) []) (size * (n % per_page)) size)
+table_at-row decode size per_page first count pages n d whole inside in_pages =
+    let positive : 0 < per_page =
+    positive_factor per_page size 4096 (mul_comm per_page size ∙ whole) (omega arith)
+    in
+    let split : per_page * (n / per_page) + n % per_page ≡ n = div-add-mod n per_page in
+    let short : n % per_page < per_page = mod-lt n {m = per_page} positive in
+    let in_page : size * (n % per_page) + size ≤ size * per_page = row_before size (n % per_page) per_page short in
+    let some : 0 < size = positive_factor size per_page 4096 whole (omega arith) in
+    let page : n / per_page < count =
+    ⊎_elim (λ (before : n / per_page < count). before)
+    (λ (past : count ≤ n / per_page).
+    absurd (omega (arith, mul-le-mul_left {m = count} {n = n / per_page} per_page past)))
+    (cases_lt (n / per_page) count)
+    in
+    let bytes : size * (per_page * (n / per_page) + n % per_page) ≡ size * n = ap (λ k. size * k) split in
+    let whole_pages : size * per_page * (n / per_page) ≡ 4096 * (n / per_page) = ap (λ w. w * (n / per_page)) whole in
+    table_at-read decode size per_page first count pages (first + n / per_page) (size * (n % per_page)) n d whole (omega arith)
+    (omega arith) in_pages (omega arith) (omega arith)
+
 -- A page before the table, or behind it, that changes.
 pub table_at-below : {X : Type 0} (decode : List ℕ → X) (size per_page first count : ℕ) (pages : List (List ℕ)) (page : ℕ) (new : List ℕ) → page < first → table_at decode size per_page first count (set pages page new) ≡ table_at decode size per_page first count pages
 unfolding table_at
@@ -296,10 +317,12 @@ pub ruleset writes = (
   length-set,
 )
 
--- the rows of tables
-pub ruleset tables = (
+-- for a function that reads a row
+pub ruleset tables_read = (table_at-row)
+
+-- for a function that writes a row
+pub ruleset tables_written = (
   length-table_at,
-  table_at-read,
   table_at-written,
   table_at-below,
   table_at-above,

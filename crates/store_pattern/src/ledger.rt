@@ -10,7 +10,7 @@ use super::visitor::{visitor_bytes, visitor_in};
 use kn_base::{Key, NodeId, PageId, Store};
 
 /// A row of the book, or None where its bytes spell no visitor.
-#[tactic(auto, using(kn_base::proofs::RowLaws::tables), unfolding(crate::specs::Ledger::ledger_of, crate::specs::Ledger::words_of))]
+#[tactic(auto, using(kn_base::proofs::RowLaws::tables_read), unfolding(crate::specs::Ledger::ledger_of, crate::specs::Ledger::words_of))]
 pub fn entry<T: Store>(store: &T, n: u32) -> Option<Visitor>
     requires pages { BookFits (ledger_of (T.memory store.now)) }
     requires row { n < 512 * slice_index (ledger_of (T.memory store.now)).words 0 }
@@ -22,7 +22,7 @@ pub fn entry<T: Store>(store: &T, n: u32) -> Option<Visitor>
 }
 
 /// Writes a row of the book.
-#[tactic(auto, using(kn_base::proofs::RowLaws::tables), unfolding(crate::specs::Ledger::ledger_of, crate::specs::Ledger::words_of))]
+#[tactic(auto, using(kn_base::proofs::RowLaws::tables_written), unfolding(crate::specs::Ledger::ledger_of, crate::specs::Ledger::words_of))]
 pub fn set_entry<T: Store>(store: &mut T, n: u32, visitor: Visitor)
     requires pages { BookFits (ledger_of (T.memory store.old)) }
     requires row { n < 512 * slice_index (ledger_of (T.memory store.old)).words 0 }
@@ -37,7 +37,7 @@ pub fn set_entry<T: Store>(store: &mut T, n: u32, visitor: Visitor)
 }
 
 /// A word of page 1.
-#[tactic(auto, using(kn_base::proofs::RowLaws::tables), unfolding(crate::specs::Ledger::ledger_of, crate::specs::Ledger::words_of))]
+#[tactic(auto, using(kn_base::proofs::RowLaws::tables_read), unfolding(crate::specs::Ledger::ledger_of, crate::specs::Ledger::words_of))]
 pub fn word<T: Store>(store: &T, n: u32) -> u32
     requires pages { BookFits (ledger_of (T.memory store.now)) }
     requires row { n < 1024 }
@@ -50,7 +50,7 @@ pub fn word<T: Store>(store: &T, n: u32) -> u32
 }
 
 /// Writes a word of page 1.
-#[tactic(auto, using(kn_base::proofs::RowLaws::tables), unfolding(crate::specs::Ledger::ledger_of, crate::specs::Ledger::words_of))]
+#[tactic(auto, using(kn_base::proofs::RowLaws::tables_written), unfolding(crate::specs::Ledger::ledger_of, crate::specs::Ledger::words_of))]
 pub fn set_word<T: Store>(store: &mut T, n: u32, word: u32)
     requires pages { BookFits (ledger_of (T.memory store.old)) }
     requires row { n < 1024 }
