@@ -39,7 +39,7 @@ pub fn set_entry<T: Store>(store: &mut T, n: u32, visitor: Visitor)
 /// A word of page 1.
 #[tactic(auto, using(kn_base::proofs::RowLaws::tables_read), unfolding(crate::specs::Ledger::ledger_of, crate::specs::Ledger::words_of))]
 pub fn word<T: Store>(store: &T, n: u32) -> u32
-    requires pages { BookFits (ledger_of (T.memory store.now)) }
+    requires page { 2 ≤ (ledger_of (T.memory store.now)).pages }
     requires row { n < 1024 }
     ensures { result ≡ slice_index (ledger_of (T.memory store.now)).words n }
 {
@@ -52,7 +52,7 @@ pub fn word<T: Store>(store: &T, n: u32) -> u32
 /// Writes a word of page 1.
 #[tactic(auto, using(kn_base::proofs::RowLaws::tables_written), unfolding(crate::specs::Ledger::ledger_of, crate::specs::Ledger::words_of))]
 pub fn set_word<T: Store>(store: &mut T, n: u32, word: u32)
-    requires pages { BookFits (ledger_of (T.memory store.old)) }
+    requires page { 2 ≤ (ledger_of (T.memory store.old)).pages }
     requires row { n < 1024 }
     requires not_the_count { 0 < n }
     ensures written { ledger_of (T.memory store.new) ≡ record (ledger_of (T.memory store.old)) { words = slice_set (ledger_of (T.memory store.old)).words n word } }
