@@ -1,6 +1,6 @@
 -- A memory in blocks: its sizes, a page or a key that is read, and a page or a key that is written.
 use Rattle.std.proofs.Common.{◌≡◌, ℕ, ◌+◌, ◌-◌, ◌*◌, ◌/◌, ◌%◌, ◌<◌, ◌≤◌, Option, Some, None, List, [], length, take, drop, get_or, set, ap, sym, ◌∙◌, refl, arith, ⊎_elim, replicate}
-use Rattle.std.proofs.lemmas.List.{length-take, length-take-le, length-replicate, get_or-replicate, get_or_past, take-replicate, drop-replicate, same_lists, get_or_default, length-drop, get_or-take, get_or-drop, get_or-set_same, drop-set-add, drop-set-lt, take-set-le}
+use Rattle.std.proofs.lemmas.List.{length-take, length-take-le, length-replicate, get_or-replicate, get_or_past, take-replicate, drop-replicate, length-drop, get_or-take, get_or-drop, get_or-set_same, drop-set-add, drop-set-lt, take-set-le}
 use Rattle.std.proofs.lemmas.Bool.{cases_lt}
 use Rattle.std.proofs.Math.Seq.{take-set-lt}
 use Rattle.kn_base.specs.declared.key.Key.{Key}
@@ -8,6 +8,7 @@ use Rattle.kn_base.specs.declared.key.Key.TheVariants.{Null}
 use Rattle.kn_base.specs.Keys.{spelled_key, spelling, keys_by_kind}
 use Rattle.kn_base.specs.Rows.{part_at, overwritten, table}
 use Rattle.kn_base.specs.Memory.{Memory, memory_of, page_at, key_at, zero_page, zero_memory, ChangesBlock}
+use Rattle.kn_base.proofs.ZeroLaws.{table-zeros}
 use Rattle.kn_base.proofs.RowLaws.{length-table, table-read, table-written}
 
 pub length-memory_pages : (pages : ℕ) (blocks : List (List ℕ)) → pages ≤ length blocks → length (memory_of pages blocks).pages ≡ pages
@@ -95,37 +96,13 @@ zeros_spell_null : spelled_key (replicate 16 0) ≡ Some Null
 unfolding spelled_key spelling keys_by_kind
 zeros_spell_null = refl
 
--- a row of a page of zeros
-zero_row : (at : ℕ) → at + 16 ≤ 4096 → part_at zero_page at 16 ≡ replicate 16 0
-unfolding zero_page
-zero_row at h =
-    ap (take 16) (drop-replicate at 4096 0)
-    ∙ take-replicate 16 (4096 - at) 0 (omega arith)
-
 -- blocks of zeros hold Null keys
-zero_keys : (blocks k : ℕ) → k < 256 * blocks → get_or (table spelled_key 16 256 (replicate blocks zero_page)) k None ≡ Some Null
-zero_keys blocks k h =
-    table-read spelled_key 16 256 (replicate blocks zero_page) (k / 256) (16 * (k % 256)) k None refl
-    (omega (arith, length-replicate blocks zero_page)) (omega arith) (omega arith)
-    ∙ ap (λ page. spelled_key (part_at page (16 * (k % 256)) 16))
-    (get_or-replicate blocks (k / 256) zero_page [] (omega arith))
-    ∙ ap spelled_key (zero_row (16 * (k % 256)) (omega arith))
-    ∙ zeros_spell_null
-
 zero_table : (blocks nodes : ℕ) → 16 * blocks ≡ nodes → table spelled_key 16 256 (replicate blocks zero_page) ≡ replicate (16 * nodes) (Some Null)
 zero_table blocks nodes e =
-    let zeros : List (List ℕ) = replicate blocks zero_page in
-    let size : length (table spelled_key 16 256 zeros) ≡ 256 * blocks =
-    length-table spelled_key 16 256 zeros ∙ ap (λ n. 256 * n) (length-replicate blocks zero_page)
-    in
-    let nulls : List (Option Key) = replicate (16 * nodes) (Some Null) in
-    let count : length nulls ≡ 16 * nodes = length-replicate (16 * nodes) (Some Null) in
-    same_lists (table spelled_key 16 256 zeros) nulls (omega arith)
-    (λ k d h.
-    let inside : k < 256 * blocks = omega arith in
-    get_or_default (table spelled_key 16 256 zeros) k d None h
-    ∙ zero_keys blocks k inside
-    ∙ sym (get_or-replicate (16 * nodes) k (Some Null) d (omega arith)))
+    let count : 256 * blocks ≡ 16 * nodes = omega arith in
+    table-zeros spelled_key 16 256 blocks refl
+    ∙ ap (replicate (256 * blocks)) zeros_spell_null
+    ∙ ap (λ n. replicate {A = Option Key} n (Some Null)) count
 
 -- the memory of blocks of zeros
 pub memory_of-zeros : (pages nodes : ℕ) → nodes % 16 ≡ 0 → memory_of pages (replicate (pages + nodes / 16) zero_page) ≡ zero_memory pages nodes
