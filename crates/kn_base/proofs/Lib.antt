@@ -1,0 +1,4 @@
+pub mod KeyLaws
+pub mod RowLaws
+pub mod ZeroLaws
+pub mod MemoryLaws

@@ -1,0 +1,4 @@
+-- in reading order
+pub mod Keys
+pub mod Rows
+pub mod Memory

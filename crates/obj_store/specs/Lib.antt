@@ -1,0 +1,4 @@
+-- in reading order
+pub mod Ram
+pub mod Store
+pub mod StoreLaws
