@@ -32,7 +32,8 @@ fn op_imm(op: ImmOp, rd: u8, rs1: u8, imm: i32) -> u32
 #[tactic(auto, unfolding(unix_model::specs::Instructions::decoded))]
 pub fn encode(instr: Instr) -> u32
     requires { Fits instr }
-    ensures { decoded result ≡ Some instr }
+    ensures spells { decoded result ≡ Some instr }
+    ensures fence { instr ≡ Instr.Fence → result ≡ 0x0FF0_000F }
 {
     match instr {
         Instr::Lui { rd, imm } => format_u(0b0110111, rd, imm),

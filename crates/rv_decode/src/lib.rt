@@ -8,11 +8,13 @@ mod decoder;
 mod encoder;
 mod fields;
 mod formats;
+mod laws;
 mod numbers;
 mod operations;
 mod ranges;
 
 pub use decoder::decode;
 pub use encoder::encode;
+pub use laws::one_word_law;
 pub use ranges::fits;
 pub use unix_model::{BranchOp, ImmOp, Instr, LoadOp, RegOp, StoreOp};
