@@ -20,23 +20,23 @@ module _ {S K : Type 0} (unix without : Unix) (slot : ℕ) (left : S → Option 
   makes-turn process state answer there taken steps told =
       let turn : Turn = turned_in (with_process without slot process) slot process bytes process.phase in
       let same : ticked_turn turn ≡ turned unix slot bytes =
-          ap (λ other. ticked_turn (turned_in (with_process other slot process) slot process bytes process.phase)) taken ∙ sym (turned-process unix slot process bytes there) in
+      ap (λ other. ticked_turn (turned_in (with_process other slot process) slot process bytes process.phase)) taken ∙ sym (turned-process unix slot process bytes there) in
       subst (λ made. MakesTurn made left grew (ticked state) answer source old new) same
-          (record {
-            state_is = ap ticked (steps.state_is bytes);
-            answer_is = steps.answer_is bytes;
-            source_left = told ∙ ap Some (sym (turn-leaves (with_process without slot process) slot process bytes process.phase));
-            sink_grew = steps.sink_grew bytes;
-          })
+      (record {
+        state_is = ap ticked (steps.state_is bytes);
+        answer_is = steps.answer_is bytes;
+        source_left = told ∙ ap Some (sym (turn-leaves (with_process without slot process) slot process bytes process.phase));
+        sink_grew = steps.sink_grew bytes;
+      })
 
   -- the turn of a free slot
   pub makes-free : at unix.processes slot ≡ None → without ≡ without_process unix slot → grew old [] old → left source ≡ Some bytes
       → MakesTurn (turned unix slot bytes) left grew (ticked without) Free source old old
   makes-free free taken nothing told =
       let same : ticked_turn (idle without bytes) ≡ turned unix slot bytes =
-          ap (λ other. ticked_turn (idle other bytes)) taken ∙ sym (turned-free unix slot bytes free) in
+      ap (λ other. ticked_turn (idle other bytes)) taken ∙ sym (turned-free unix slot bytes free) in
       subst (λ made. MakesTurn made left grew (ticked without) Free source old old) same
-          (record { state_is = refl; answer_is = refl; source_left = told; sink_grew = nothing })
+      (record { state_is = refl; answer_is = refl; source_left = told; sink_grew = nothing })
 
   -- a front of what the turn puts
   pub puts-part : (process : Process) → at unix.processes slot ≡ Some process → without ≡ without_process unix slot
@@ -44,5 +44,5 @@ module _ {S K : Type 0} (unix without : Unix) (slot : ℕ) (left : S → Option 
       → GrewByPrefix grew old (turned unix slot bytes).put new
   puts-part process there taken part =
       let same : ticked_turn (turned_in (with_process without slot process) slot process bytes process.phase) ≡ turned unix slot bytes =
-          ap (λ other. ticked_turn (turned_in (with_process other slot process) slot process bytes process.phase)) taken ∙ sym (turned-process unix slot process bytes there) in
+      ap (λ other. ticked_turn (turned_in (with_process other slot process) slot process bytes process.phase)) taken ∙ sym (turned-process unix slot process bytes there) in
       subst (λ (made : Turn). GrewByPrefix grew old made.put new) same part

@@ -5,16 +5,14 @@ ghost use Rattle.unix_model.specs.Calls.{refusal};
 ghost use Rattle.unix_model.specs.Enter.{answered};
 ghost use Rattle.flat_unix.specs.ProcessView.{phase_of};
 
-use std::alloc::{AllocError, Global};
-
-use kn_io::{Failed, Sink, Source};
-use unix_model::{Call, ElfFault, Errno, Turned, WaitWord};
-
 use crate::files::Files;
 use crate::inode::Inode;
 use crate::process::{Phase, Process};
 use crate::request::Request;
 use crate::slots::Slots;
+use kn_io::{Failed, Sink, Source};
+use std::alloc::{AllocError, Global};
+use unix_model::{Call, ElfFault, Errno, Turned, WaitWord};
 
 /// Why a call of the machine failed.
 #[derive(Clone, Copy, Debug, PartialEq, Eq)]
@@ -313,7 +311,10 @@ impl Flat {
         if count == 0 {
             return Ok(Phase::Done(0));
         }
-        match self.files.inode_of_number(process.descriptor(request.arguments[0])) {
+        match self
+            .files
+            .inode_of_number(process.descriptor(request.arguments[0]))
+        {
             Some(Inode::Console) => {
                 output.put(&request.bytes)?;
                 Ok(Phase::Done(count as u32))

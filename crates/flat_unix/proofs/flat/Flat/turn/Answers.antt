@@ -1,7 +1,6 @@
-use Rattle.std.proofs.Common.{◌≡◌, ℕ, Option, Some, None, List, ap, sym, ◌∙◌, subst}
+use Rattle.std.proofs.Common.{◌≡◌, ℕ, Option, ap, sym, ◌∙◌}
 use Rattle.unix_model.specs.Process as model
 use Rattle.unix_model.specs.State.{Unix, with_process}
-use Rattle.unix_model.specs.Turn.{ticked}
 use Rattle.unix_model.proofs.TurnLaws.{put-back, without_process}
 use Rattle.flat_unix.specs.FlatView.{unix_of}
 use Rattle.flat_unix.specs.ProcessView.{process_of}
@@ -15,7 +14,7 @@ returns-in-None-clause-turn g c = λ bytes told.
     let without : Unix = record unix { processes = slots_of c.take.new.self } in
     let taken : without ≡ without_process unix c.args.slot = ap (λ (processes : ℕ → Option model.Process). record unix { processes = processes }) c.take.ensures.free in
     rw c.tick.ensures
-      (makes-free unix without c.args.slot g.S.Source.left g.K.Sink.grew c.args.input.now c.args.output.now c.args.output.now bytes (sym c.in-None.ensures.taken) taken (g.met.K.Sink.grew_nothing c.args.output.now) told)
+    (makes-free unix without c.args.slot g.S.Source.left g.K.Sink.grew c.args.input.now c.args.output.now c.args.output.now bytes (sym c.in-None.ensures.taken) taken (g.met.K.Sink.grew_nothing c.args.output.now) told)
 
 pub returns-in-Err-clause-unchanged : goal.returns-in-Err-clause-unchanged
 returns-in-Err-clause-unchanged g c = λ failed.
@@ -37,4 +36,4 @@ returns-clause-turn g c = λ bytes told.
     let without : Unix = record unix { processes = slots_of c.take.new.self } in
     let taken : without ≡ without_process unix c.args.slot = ap (λ (processes : ℕ → Option model.Process). record unix { processes = processes }) c.take.ensures.free in
     rw c.tick-2.ensures
-      (makes-turn unix without c.args.slot g.S.Source.left g.K.Sink.grew c.args.input.now c.args.output.now c.turn_process.new.output bytes (process_of c.in-Some.process) _ c.in-Ok.answer (sym c.in-Some.ensures.taken) taken c.in-Ok.ensures.turn told)
+    (makes-turn unix without c.args.slot g.S.Source.left g.K.Sink.grew c.args.input.now c.args.output.now c.turn_process.new.output bytes (process_of c.in-Some.process) _ c.in-Ok.answer (sym c.in-Some.ensures.taken) taken c.in-Ok.ensures.turn told)

@@ -6,5 +6,5 @@ use Rattle.flat_unix.proofs.memory.Memory.bytes.Given as goal
 abbrev pub invariant-loop-i : goal.invariant-loop-i
 invariant-loop-i l = record {
   found : Some l.bytes.items ≡ bytes_at (memory_of l.self) l.address l.i;
-  len : vec_len l.bytes ≡ l.i
+  len : vec_len l.bytes ≡ l.i;
 }
