@@ -12,6 +12,8 @@ mod laws;
 mod numbers;
 mod operations;
 mod ranges;
+#[cfg(test)]
+mod tests;
 
 pub use decoder::decode;
 pub use encoder::encode;

@@ -12,6 +12,8 @@ mod operations;
 mod registers;
 mod step;
 mod stores;
+#[cfg(test)]
+mod tests;
 
 pub use laws::step_law;
 pub use step::{begin, end_load, end_store};
