@@ -6,7 +6,6 @@ ghost use Rattle.unix_model.specs.Execution.{is_taken as is_taken_of};
 use unix_model::BranchOp;
 
 /// Whether a branch is taken.
-#[inline]
 pub fn is_taken(op: BranchOp, x: u32, y: u32) -> bool
     ensures { result ≡ is_taken_of op x y }
 {

@@ -7,7 +7,6 @@ ghost use Rattle.rv_exec.specs.Asked.{IsSize};
 use unix_model::LoadOp;
 
 /// How many bytes a load reads.
-#[inline]
 pub fn load_size(op: LoadOp) -> u8
     ensures size { result ≡ load_size_of op }
     ensures range { IsSize result }
@@ -22,7 +21,6 @@ pub fn load_size(op: LoadOp) -> u8
 }
 
 /// The word that a load gives, of the number that its bytes spell.
-#[inline]
 pub fn load_value(op: LoadOp, number: u32) -> u32
     requires { number < 2 ^ (8 * load_size_of op) }
     ensures { result ≡ load_value_of op number }

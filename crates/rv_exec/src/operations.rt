@@ -6,7 +6,6 @@ ghost use Rattle.unix_model.specs.Execution.{reg_value as reg_value_of, imm_valu
 use unix_model::{ImmOp, RegOp};
 
 /// The value of two words; a shift is by the low five bits of the second.
-#[inline]
 pub fn reg_value(op: RegOp, x: u32, y: u32) -> u32
     ensures { result ≡ reg_value_of op x y }
 {
@@ -25,7 +24,6 @@ pub fn reg_value(op: RegOp, x: u32, y: u32) -> u32
 }
 
 /// The value of a word and an immediate.
-#[inline]
 pub fn imm_value(op: ImmOp, x: u32, immediate: i32) -> u32
     ensures { result ≡ imm_value_of op x immediate }
 {

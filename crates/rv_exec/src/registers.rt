@@ -7,7 +7,6 @@ ghost use Rattle.rv_exec.specs.Sound.{IsSound};
 use unix_model::{Access, Cause, Outcome, Regs};
 
 /// A register's word.
-#[inline]
 pub fn register(regs: &Regs, number: u8) -> u32
     requires { number < 32 }
     ensures { result ≡ register_of regs.now number }
@@ -16,7 +15,6 @@ pub fn register(regs: &Regs, number: u8) -> u32
 }
 
 /// Writes a register; x0 stays 0.
-#[inline]
 pub fn set_register(regs: &mut Regs, number: u8, word: u32)
     requires { number < 32 }
     ensures written { regs.new ≡ with_register regs.old number word }
@@ -28,7 +26,6 @@ pub fn set_register(regs: &mut Regs, number: u8, word: u32)
 }
 
 /// The sum of a register and an immediate.
-#[inline]
 pub fn address(regs: &Regs, number: u8, immediate: i32) -> u32
     requires { number < 32 }
     ensures { result ≡ address_of regs.now number immediate }
@@ -37,7 +34,6 @@ pub fn address(regs: &Regs, number: u8, immediate: i32) -> u32
 }
 
 /// Goes on with the next instruction.
-#[inline]
 pub fn go_on(regs: &mut Regs) -> Access
     ensures begun { goes_on_of regs.old ≡ record { registers = regs.new; access = result } }
     ensures next { result ≡ Access.Finished Outcome.Next }
@@ -48,7 +44,6 @@ pub fn go_on(regs: &mut Regs) -> Access
 }
 
 /// Writes a register, and goes on with the next instruction.
-#[inline]
 pub fn write(regs: &mut Regs, number: u8, word: u32) -> Access
     requires { number < 32 }
     ensures begun { writes regs.old number word ≡ record { registers = regs.new; access = result } }
@@ -60,7 +55,6 @@ pub fn write(regs: &mut Regs, number: u8, word: u32) -> Access
 }
 
 /// Writes the address of the next instruction to a register, and goes on at the target, where it is a multiple of 4.
-#[inline]
 pub fn jump(regs: &mut Regs, number: u8, target: u32) -> Access
     requires { number < 32 }
     ensures begun { jumps regs.old number target ≡ record { registers = regs.new; access = result } }

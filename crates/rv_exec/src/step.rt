@@ -16,7 +16,6 @@ use rv_decode::decode;
 use unix_model::{Access, Cause, Instr, Outcome, Regs};
 
 /// A branch.
-#[inline]
 fn branch(regs: &mut Regs, taken: bool, target: u32) -> Access
     ensures begun { branches regs.old taken target ≡ record { registers = regs.new; access = result } }
     ensures sound { IsSound regs.old → IsSound regs.new }
@@ -29,7 +28,6 @@ fn branch(regs: &mut Regs, taken: bool, target: u32) -> Access
 }
 
 /// An instruction's own part, and what it then wants of memory.
-#[inline]
 fn begin_instr(regs: &mut Regs, instr: Instr) -> Access
     requires { Fits instr }
     ensures begun { begun regs.old instr ≡ record { registers = regs.new; access = result } }
@@ -77,7 +75,6 @@ fn begin_instr(regs: &mut Regs, instr: Instr) -> Access
 /// Begins the instruction that `word`, the word at `pc`, spells: all of it, unless it is a load or a store, of which
 /// nothing is done but to say what it wants of memory. After a call, a breakpoint and a fault nothing has changed. The
 /// faults are [`Cause::Illegal`] and [`Cause::BadTarget`] alone.
-#[inline]
 pub fn begin(regs: &mut Regs, word: u32) -> Access
     ensures begun { begun_by regs.old (decoded word) ≡ record { registers = regs.new; access = result } }
     ensures access { IsAccess (decoded word) result }
@@ -92,7 +89,6 @@ pub fn begin(regs: &mut Regs, word: u32) -> Access
 
 /// Ends the load that `word` spells with the number that its bytes spell, the lowest first: the register gets it,
 /// extended, and the next instruction follows.
-#[inline]
 pub fn end_load(regs: &mut Regs, word: u32, value: u32)
     requires { CanLoad (decoded word) value }
     ensures ended { regs.new ≡ load_ended regs.old (decoded word) value }
@@ -108,7 +104,6 @@ pub fn end_load(regs: &mut Regs, word: u32, value: u32)
 }
 
 /// Ends a store, once its bytes are written: the next instruction follows.
-#[inline]
 pub fn end_store(regs: &mut Regs)
     ensures ended { regs.new ≡ store_ended regs.old }
     ensures sound { IsSound regs.old → IsSound regs.new }

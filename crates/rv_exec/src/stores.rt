@@ -7,7 +7,6 @@ ghost use Rattle.rv_exec.specs.Asked.{IsSize};
 use unix_model::StoreOp;
 
 /// How many bytes a store writes.
-#[inline]
 pub fn store_size(op: StoreOp) -> u8
     ensures size { result ≡ store_size_of op }
     ensures range { IsSize result }
@@ -20,7 +19,6 @@ pub fn store_size(op: StoreOp) -> u8
 }
 
 /// The bytes that a store writes, as a number.
-#[inline]
 pub fn store_value(op: StoreOp, word: u32) -> u32
     ensures value { result ≡ store_value_of op word }
     ensures range { result < 2 ^ (8 * store_size_of op) }
