@@ -260,3 +260,45 @@ pub fn execute(regs: &mut Regs, memory: &mut Memory) -> Outcome
         None => Outcome::Fault(Cause::Illegal),
     }
 }
+
+#[cfg(test)]
+mod tests {
+    use super::*;
+    use crate::page::Page;
+    use std::alloc::{AllocError, Global};
+    use std::test::Fail;
+
+    fn writable_page(alloc: Global) -> Result<Page, AllocError> {
+        Ok(Page {
+            writable: true,
+            bytes: vec![in alloc; 0; 4096]?,
+        })
+    }
+
+    fn two_words(memory: &Memory) -> [Option<u32>; 2] {
+        [memory.word(0x1_1FFC), memory.word(0x1_2000)]
+    }
+
+    /// `sw a2, -3(a1)` at 0x1_0000, to 0x1_1FFE, before and after the page 0x1_2000 is mapped.
+    #[test]
+    fn a_store_over_two_pages_needs_both(rt: HostRuntime) -> Result<(), Fail> {
+        let alloc = rt.alloc();
+        let mut memory = Memory::new(alloc);
+        memory.pages.insert(0x10, writable_page(alloc)?)?;
+        memory.pages.insert(0x11, writable_page(alloc)?)?;
+        memory.write(0x1_0000, &[0xA3, 0xAE, 0xC5, 0xFE]);
+        let mut regs = Regs {
+            x: [0; 32],
+            pc: 0x1_0000,
+        };
+        regs.x[11] = 0x1_2001;
+        regs.x[12] = 0x8765_4321;
+        assert!(rt; execute(&mut regs, &mut memory) == Outcome::Fault(Cause::BadStore));
+        assert_eq!(rt; regs.pc, 0x1_0000);
+        assert_eq!(rt; two_words(&memory), [Some(0), None]);
+        memory.pages.insert(0x12, writable_page(alloc)?)?;
+        assert!(rt; execute(&mut regs, &mut memory) == Outcome::Next);
+        assert_eq!(rt; two_words(&memory), [Some(0x4321_0000), Some(0x0000_8765)]);
+        Ok(())
+    }
+}
