@@ -1,3 +1,4 @@
+pub mod PageWrites
 pub mod SlotLaws
 pub mod SlotBounds
 pub mod TurnSteps

@@ -1,7 +1,8 @@
 //! Flat memory: pages by their numbers.
 
-ghost use Rattle.std.specs.Prelude.{◌≡◌, ℕ, ◌<◌, ◌≤◌, ◌+◌, ◌%◌, ◌^◌, IfOk, IfSome, OnOk, Some, is_some, option_map, vec_len};
-ghost use Rattle.unix_model.specs.Memory.{byte_at, bytes_at, mapped_pages, word_at};
+ghost use Rattle.std.specs.Prelude.{◌≡◌, ℕ, ◌<◌, ◌≤◌, ◌+◌, ◌%◌, ◌^◌, IfOk, IfSome, OnOk, Some, is_some, length, option_map, vec_len};
+ghost use Rattle.unix_model.specs.Memory.{byte_at, bytes_at, mapped_pages, word_at, is_writable, all_writable, with_byte, with_bytes};
+ghost use Rattle.unix_model.specs.Numbers.{word_of};
 ghost use Rattle.unix_model.specs.Tables.{at, nothing, with_at};
 ghost use Rattle.flat_unix.specs.MemoryView.{memory_of, page_of};
 
@@ -127,5 +128,64 @@ impl Memory {
             }
         }
         Ok(Some(bytes))
+    }
+
+    /// The number that two bytes spell, the lowest first, or None where one of them isn't mapped.
+    #[tactic(auto, using(unix_model::proofs::MemoryLaws::numbers))]
+    pub fn half(&self, address: u32) -> Option<u16>
+        ensures { result ≡ option_map word_of (bytes_at (memory_of self.now) address 2) }
+    {
+        let first = self.byte(u64::from(address))?;
+        let second = self.byte(u64::from(address) + 1)?;
+        Some(u16::from_le_bytes([first, second]))
+    }
+
+    /// Whether the byte at an address may be written.
+    #[tactic(auto, unfolding(unix_model::specs::Memory::is_writable, unix_model::specs::Tables::at, crate::specs::MemoryView::memory_of))]
+    fn is_writable(&self, address: u64) -> bool
+        requires { address < 2 ^ 33 }
+        ensures { result ≡ is_writable (memory_of self.now) address }
+    {
+        match self.pages.get(&((address / 4096) as u32)) {
+            Some(page) => page.writable,
+            None => false,
+        }
+    }
+
+    /// Whether each byte of a range may be written.
+    #[tactic(auto, using(unix_model::proofs::MemoryLaws::writes))]
+    pub fn all_writable(&self, address: u32, count: usize) -> bool
+        requires { count ≤ 4096 }
+        ensures { result ≡ all_writable (memory_of self.now) address count }
+    {
+        for i in 0..count {
+            if !self.is_writable(u64::from(address) + i as u64) {
+                return false;
+            }
+        }
+        true
+    }
+
+    /// Writes the byte at an address, where it is mapped.
+    #[tactic(auto, unfolding(unix_model::specs::Memory::with_byte, unix_model::specs::Tables::at, crate::specs::MemoryView::memory_of))]
+    fn set_byte(&mut self, address: u64, byte: u8)
+        requires { address < 2 ^ 33 }
+        ensures { memory_of self.new ≡ with_byte (memory_of self.old) address byte }
+    {
+        match self.pages.get_mut(&((address / 4096) as u32)) {
+            Some(page) => page.set((address % 4096) as usize, byte),
+            None => {}
+        }
+    }
+
+    /// Writes bytes from an address on, each where it is mapped.
+    #[tactic(auto, using(unix_model::proofs::MemoryLaws::writes))]
+    pub fn write(&mut self, address: u32, bytes: &[u8])
+        requires { length bytes.now ≤ 4096 }
+        ensures { memory_of self.new ≡ with_bytes (memory_of self.old) address bytes.now }
+    {
+        for (i, byte) in bytes.iter().enumerate() {
+            self.set_byte(u64::from(address) + i as u64, *byte);
+        }
     }
 }

@@ -11,7 +11,8 @@ pub struct Page {
 }
 
 impl Page {
-    ghost use Rattle.std.specs.Prelude.{◌≡◌, ◌≤◌};
+    ghost use Rattle.std.specs.Prelude.{◌≡◌, ◌<◌, ◌≤◌};
+    ghost use Rattle.unix_model.specs.Memory.{page_with_byte};
     ghost use Rattle.unix_model.proofs.MemoryLaws.{page_word};
     ghost use Rattle.flat_unix.specs.MemoryView.{page_of};
 
@@ -26,5 +27,13 @@ impl Page {
             self.bytes[place + 2],
             self.bytes[place + 3],
         ])
+    }
+
+    /// Writes the byte at a place.
+    pub fn set(&mut self, place: usize, byte: u8)
+        requires { place < 4096 }
+        ensures { page_of self.new ≡ page_with_byte place byte (page_of self.old) }
+    {
+        self.bytes[place] = byte;
     }
 }

@@ -53,7 +53,8 @@ fn signal(cause: Cause) -> u32
 {
     match cause {
         Cause::Illegal => 4,
-        Cause::BadFetch => 11,
+        Cause::BadTarget => 7,
+        Cause::BadFetch | Cause::BadLoad | Cause::BadStore => 11,
     }
 }
 
@@ -64,6 +65,7 @@ fn phase_after(outcome: Outcome) -> Phase
     match outcome {
         Outcome::Next => Phase::Run,
         Outcome::Call => Phase::Asked,
+        Outcome::Break => Phase::Exiting(5),
         Outcome::Fault(cause) => Phase::Exiting(signal(cause)),
     }
 }
@@ -74,13 +76,13 @@ impl Process {
     pub fn run(mut self) -> Process
         ensures { process_of result ≡ ran (process_of self) }
     {
-        let outcome = execute(&mut self.registers, &self.memory);
+        let outcome = execute(&mut self.registers, &mut self.memory);
         self.phase = phase_after(outcome);
         self
     }
 
     /// The return of an answer: the value in `a0`, and the instruction after the call.
-    #[tactic(auto, unfolding(unix_model::specs::Turn::returned, unix_model::specs::Turn::with_bytes))]
+    #[tactic(auto, unfolding(unix_model::specs::Turn::returned, unix_model::specs::Memory::with_bytes))]
     pub fn give_back(mut self, value: u32) -> Process
         ensures { process_of result ≡ returned (process_of self) value 0 [] }
     {

@@ -1,7 +1,8 @@
 -- Flat memory: page numbers below 2^19 to pages of 4,096 bytes. The byte at address a is byte a mod 4096 of page
 -- a / 4096. A range of addresses doesn't wrap: from 0x8000_0000 on nothing is mapped.
-use Rattle.std.specs.Prelude.{ℕ, zero, suc, ◌+◌, ◌/◌, ◌%◌, ◌^◌, Bool, List, [], ◌∷◌, ◌++◌, Option, Some, None, is_some, option_map, slice_index}
-use Rattle.unix_model.specs.Tables.{at, count_below}
+use Rattle.std.specs.Prelude.{ℕ, zero, suc, ◌+◌, ◌/◌, ◌%◌, ◌^◌, Bool, true, false, ◌&&◌, List, [], ◌∷◌, ◌++◌, Option, Some, None, is_some, option_map, slice_index, slice_set}
+use Rattle.std.specs.Option.{unwrap_or}
+use Rattle.unix_model.specs.Tables.{at, with_at, count_below}
 use Rattle.unix_model.specs.Numbers.{word_of}
 
 pub record Page : Type 0 where
@@ -33,3 +34,26 @@ word_at memory address = option_map word_of (bytes_at memory address 4)
 -- how many pages are mapped
 unfoldable pub mapped_pages : Memory → ℕ
 mapped_pages memory = count_below (λ n. is_some (at memory n)) (2 ^ 19)
+
+-- whether a byte may be written: it is mapped, on a writable page
+unfoldable pub is_writable : Memory → ℕ → Bool
+is_writable memory address = unwrap_or (option_map (λ (page : Page). page.writable) (at memory (address / 4096))) false
+
+-- whether each byte of a range may be written
+unfoldable pub all_writable : Memory → ℕ → ℕ → Bool
+all_writable memory address zero = true
+all_writable memory address (suc n) = all_writable memory address n && is_writable memory (address + n)
+
+-- a page with one of its bytes written
+abbrev pub page_with_byte : ℕ → ℕ → Page → Page
+page_with_byte place byte page = record page { bytes = slice_set page.bytes place byte }
+
+-- the memory with one byte written, where it is mapped
+unfoldable pub with_byte : Memory → ℕ → ℕ → Memory
+with_byte memory address byte =
+    with_at memory (address / 4096) (option_map (page_with_byte (address % 4096) byte) (at memory (address / 4096)))
+
+-- the memory with these bytes written from an address on
+unfoldable pub with_bytes : Memory → ℕ → List ℕ → Memory
+with_bytes memory address [] = memory
+with_bytes memory address (byte ∷ bytes) = with_bytes (with_byte memory address byte) (address + 1) bytes

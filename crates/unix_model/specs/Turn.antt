@@ -1,29 +1,33 @@
 -- A turn of one slot, the machine's atomic step: by the phase of its process one instruction, one message to the
 -- keeper, one answer of a server, one return of an answer, or one step of an exit.
-use Rattle.std.specs.Prelude.{◌≡◌, ℕ, ◌+◌, ◌/◌, ◌%◌, List, [], ◌∷◌, Option, Some, None, slice_set}
+use Rattle.std.specs.Prelude.{◌≡◌, ℕ, List, Option, Some, None}
 use Rattle.unix_model.specs.declared.calls.Turned.{Turned}
 use Rattle.unix_model.specs.declared.instructions.Cause.{Cause}
-use Rattle.unix_model.specs.declared.instructions.Cause.TheVariants.{Illegal, BadFetch}
+use Rattle.unix_model.specs.declared.instructions.Cause.TheVariants.{Illegal, BadTarget, BadFetch, BadLoad, BadStore}
 use Rattle.unix_model.specs.declared.instructions.Outcome.{Outcome}
-use Rattle.unix_model.specs.declared.instructions.Outcome.TheVariants.{Next, Call, Fault}
+use Rattle.unix_model.specs.declared.instructions.Outcome.TheVariants.{Next, Call, Break, Fault}
 use Rattle.unix_model.specs.Effect.{Turn, worked, idle, goes_on, call_effect}
 use Rattle.unix_model.specs.Enter.{entered}
 use Rattle.unix_model.specs.Execution.{executed, with_register, at_next}
-use Rattle.unix_model.specs.Memory.{Memory, Page}
+use Rattle.unix_model.specs.Memory.{with_bytes}
 use Rattle.unix_model.specs.Process.{Process, Phase, Run, Asked, Sent, Done, Exiting, Zombie, descriptor, without_descriptor, zombie}
 use Rattle.unix_model.specs.State.{Unix, with_process, with_description_released, adopted, position_after}
-use Rattle.unix_model.specs.Tables.{at, with_at, least_below}
+use Rattle.unix_model.specs.Tables.{at, least_below}
 use Rattle.std.specs.Option.{is_some, option_map}
 
--- the signal of a fault: 4 for an illegal instruction, 11 for a bad address
+-- the signal of a fault (POSIX.1, signal.h, with the numbers of Linux): SIGILL, SIGBUS, or SIGSEGV
 abbrev pub signal_of : Cause → ℕ
 signal_of Illegal = 4
+signal_of BadTarget = 7
 signal_of BadFetch = 11
+signal_of BadLoad = 11
+signal_of BadStore = 11
 
--- the phase after an instruction
+-- the phase after an instruction; a breakpoint ends the process by SIGTRAP
 abbrev pub phase_after : Outcome → Phase
 phase_after Next = Run
 phase_after Call = Asked
+phase_after Break = Exiting 5
 phase_after (Fault cause) = Exiting (signal_of cause)
 
 -- Run: one instruction
@@ -31,19 +35,6 @@ unfoldable pub ran : Process → Process
 ran process =
     let done = executed process.registers process.memory in
     record process { registers = done.registers; memory = done.memory; phase = phase_after done.outcome }
-
--- the memory with one byte written, where it is mapped
-abbrev pub page_with_byte : ℕ → ℕ → Page → Page
-page_with_byte place byte page = record page { bytes = slice_set page.bytes place byte }
-
-unfoldable pub with_byte : Memory → ℕ → ℕ → Memory
-with_byte memory address byte =
-    with_at memory (address / 4096) (option_map (page_with_byte (address % 4096) byte) (at memory (address / 4096)))
-
--- the memory with these bytes written from an address on
-unfoldable pub with_bytes : Memory → ℕ → List ℕ → Memory
-with_bytes memory address [] = memory
-with_bytes memory address (byte ∷ bytes) = with_bytes (with_byte memory address byte) (address + 1) bytes
 
 -- Done: the bytes go to memory, the value to a0, and the instruction after the call follows
 unfoldable pub returned : Process → ℕ → ℕ → List ℕ → Process

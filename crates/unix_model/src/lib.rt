@@ -11,5 +11,7 @@ mod laws;
 
 pub use calls::{Call, Errno, Turned, WaitWord};
 pub use elf::{ElfFault, FileHeader, Load, MOST_LOADS, ProgramHeader};
-pub use instructions::{Access, Cause, ImmOp, Instr, Outcome, Regs};
+pub use instructions::{
+    Access, BranchOp, Cause, ImmOp, Instr, LoadOp, Outcome, RegOp, Regs, StoreOp,
+};
 pub use laws::splitting_law;
