@@ -1,0 +1,5 @@
+pub mod Fields
+pub mod TestLemmas
+pub mod LoadLemmas
+pub mod BreakLemmas
+pub mod PlanLemmas

@@ -1,0 +1,33 @@
+-- The process that a process of the plain machine stands for.
+use Rattle.std.specs.Prelude.{[]}
+use Rattle.unix_model.specs.Process as model
+use Rattle.flat_unix.specs.declared.process.Phase.{Phase}
+use Rattle.flat_unix.specs.declared.process.Phase.TheVariants.{Run, Asked, Sent, Done, Exiting, Zombie}
+use Rattle.flat_unix.specs.declared.process.Process.{Process}
+use Rattle.flat_unix.specs.declared.process.Request.{Request}
+use Rattle.flat_unix.specs.MemoryView.{memory_of}
+
+abbrev pub request_of : Request → model.Request
+request_of request = record { call = request.call; arguments = request.arguments; bytes = request.bytes.items }
+
+-- an answer brings no bytes for memory yet
+abbrev pub phase_of : Phase → model.Phase
+phase_of Run = model.Run
+phase_of Asked = model.Asked
+phase_of (Sent request) = model.Sent (request_of request)
+phase_of (Done value) = model.Done value 0 []
+phase_of (Exiting word) = model.Exiting word
+phase_of (Zombie word) = model.Zombie word
+
+abbrev pub process_of : Process → model.Process
+process_of process =
+    record {
+      pid = process.pid;
+      parent = process.parent;
+      registers = process.registers;
+      memory = memory_of process.memory;
+      break_start = process.break_start;
+      break_end = process.break_end;
+      descriptors = process.descriptors;
+      phase = phase_of process.phase;
+    }

@@ -1,0 +1,26 @@
+//! The outside of the machine: where bytes come from and where they go.
+//!
+//! A [`Source`] gives bytes one by one and a [`Sink`] takes them in pieces. Each has a count of
+//! faults that never falls, and answers [`Failed`] only where that count rose.
+#![tactic(auto)]
+
+mod adapters;
+mod byte_source;
+mod call_counter;
+mod failures;
+mod mem_sink;
+mod mem_source;
+mod reading;
+mod sink;
+mod source;
+#[cfg(test)]
+mod tests;
+
+pub use adapters::{ReadSource, WriteSink};
+pub use byte_source::ByteSource;
+pub use failures::{Failed, NoMemory, ReadFault, WriteFault};
+pub use mem_sink::MemSink;
+pub use mem_source::MemSource;
+pub use reading::{ReadError, read_up_to};
+pub use sink::Sink;
+pub use source::Source;

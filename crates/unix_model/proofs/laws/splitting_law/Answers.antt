@@ -1,0 +1,7 @@
+use Rattle.unix_model.proofs.laws.splitting_law.Goals as goal
+use Rattle.unix_model.proofs.Splitting.{splitting}
+use Rattle.unix_model.specs.Schedule.{unix_run, unix_machine}
+
+pub returns : goal.returns
+unfolding unix_run
+returns c = λ n m unix schedule input going. splitting unix_machine n m unix schedule input going
