@@ -1,0 +1,5 @@
+-- in reading order
+pub mod Objects
+pub mod Walks
+pub mod Forest
+pub mod Laws
