@@ -1,3 +1,5 @@
 pub mod WalkLaws
 pub mod CountLaws
 pub mod OwnLaws
+pub mod ExactLaws
+pub mod MapLaws

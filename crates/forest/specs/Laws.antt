@@ -1,9 +1,12 @@
 -- The laws of shared trees, each as one statement.
-use Rattle.std.specs.Prelude.{◌≡◌, ◌≢◌, ◌<◌, ◌^◌, ℕ, Option, Some, None, List}
+use Rattle.std.specs.Prelude.{◌≡◌, ◌≢◌, ◌<◌, ◌*◌, ◌/◌, ◌^◌, ℕ, Option, Some, None, List, ◌∷◌}
 use Rattle.kn_base.specs.declared.key.Key.{Key}
-use Rattle.forest.specs.Objects.{Object, PageObject, NodeObject, named}
-use Rattle.forest.specs.Walks.{key_along, space_key, IsWay, page_way, Mapping, map_of}
-use Rattle.forest.specs.Forest.{Forest, Exact, Sound, IsSpace, OwnWay, EndsAt}
+use Rattle.kn_base.specs.declared.key.Key.TheVariants.{Null, Number, Page, Node, Segment, Start, Resume, Domain, Meter, Service}
+use Rattle.unix_model.specs.Tables.{at, with_at}
+use Rattle.forest.specs.Objects.{Object, PageObject, NodeObject, Owner, named}
+use Rattle.forest.specs.Walks.{key_along, space_key, IsWay, page_way, Mapping, mapping_of, map_of, place_of}
+use Rattle.forest.specs.Forest.{Forest, Exact, Sound, IsSpace, OwnWay, EndsAt, NobodyNames, in_hand}
+use Rattle.forest.specs.Changes.{raised, lowered, with_key, with_taken, with_given, and_outside, filled, with_fresh}
 
 -- What a space reaches on a way of objects that are counted once is reached by no other space, and by this space on no
 -- other way.
@@ -23,3 +26,78 @@ OwnPageIsAlone =
     → OwnWay forest space (page_way page) → found.page ≢ 0
     → map_of forest.keys space page ≡ Some found → map_of forest.keys other other_page ≡ Some other_found
     → other_found.page ≡ found.page → (other ≡ space) × (other_page ≡ page)
+
+-- Raising a count puts a key in hand.
+abbrev pub RaiseIsExact : Type 0
+RaiseIsExact =
+    (forest : Forest) (outside : Object → ℕ) (hand : List Key) (key : Key)
+    → Exact forest outside hand → Exact (raised forest key) outside (key ∷ hand)
+
+-- Lowering a count takes a key out of hand.
+abbrev pub LowerIsExact : Type 0
+LowerIsExact =
+    (forest : Forest) (outside : Object → ℕ) (hand : List Key) (key : Key)
+    → Exact forest outside (key ∷ hand) → Exact (lowered forest key) outside hand
+
+-- A key that is written moves from hand to its place, and the one that stood there moves from its place to hand.
+abbrev pub WriteIsExact : Type 0
+WriteIsExact =
+    (forest : Forest) (outside : Object → ℕ) (hand : List Key) (place : ℕ) (key : Key)
+    → place < 16 * forest.nodes
+    → Exact forest outside (key ∷ hand) → Exact (with_key forest place key) outside (at forest.keys place ∷ hand)
+
+-- An object that nobody names is taken: its key is in hand.
+abbrev pub TakeIsExact : Type 0
+TakeIsExact =
+    (forest : Forest) (outside : Object → ℕ) (hand : List Key) (key : Key) (object : Object) (owner : Owner)
+    → named key ≡ Some object → NobodyNames forest.keys object → outside object ≡ 0 → in_hand hand object ≡ 0
+    → Exact forest outside hand → Exact (with_taken forest object owner) outside (key ∷ hand)
+
+-- An object is given back.
+abbrev pub GiveIsExact : Type 0
+GiveIsExact =
+    (forest : Forest) (outside : Object → ℕ) (hand : List Key) (object : Object)
+    → Exact forest outside hand → Exact (with_given forest object) outside hand
+
+-- A key in hand is handed out of the forest, to a domain or a table, and back.
+abbrev pub HandOutIsExact : Type 0
+HandOutIsExact =
+    (forest : Forest) (outside : Object → ℕ) (hand : List Key) (key : Key)
+    → Exact forest outside (key ∷ hand) → Exact forest (and_outside outside key) hand
+
+abbrev pub HandInIsExact : Type 0
+HandInIsExact =
+    (forest : Forest) (outside : Object → ℕ) (hand : List Key) (key : Key)
+    → Exact forest (and_outside outside key) hand → Exact forest outside (key ∷ hand)
+
+-- A fresh node put in the place of a node that it copies, or in an empty place: every other space keeps its map.
+abbrev pub FreshKeepsMaps : Type 0
+FreshKeepsMaps =
+    (keys : ℕ → Key) (place fresh height : ℕ)
+    → NobodyNames keys (NodeObject fresh) → place / 16 ≢ fresh → mapping_of (at keys place) ≡ None
+    → (space : ℕ) → space ≢ fresh → map_of (with_fresh keys place fresh height) space ≡ map_of keys space
+
+-- The key of a node without keys is taken from its place: every space keeps its map.
+abbrev pub DetachKeepsMaps : Type 0
+DetachKeepsMaps =
+    (keys : ℕ → Key) (place node : ℕ)
+    → named (at keys place) ≡ Some (NodeObject node)
+    → ((digit : ℕ) → digit < 16 → at keys (place_of node digit) ≡ Null)
+    → (space : ℕ) → map_of (with_at keys place Null) space ≡ map_of keys space
+
+-- A fresh root with the first eight keys of another one has its map, and every other space keeps its own.
+abbrev pub ShareKeepsMaps : Type 0
+ShareKeepsMaps =
+    (keys content : ℕ → Key) (fresh space : ℕ)
+    → NobodyNames keys (NodeObject fresh) → space ≢ fresh
+    → ((digit : ℕ) → digit < 8 → content digit ≡ at keys (place_of space digit))
+    → (map_of (filled keys fresh content) fresh ≡ map_of keys space)
+    × ((other : ℕ) → other ≢ fresh → map_of (filled keys fresh content) other ≡ map_of keys other)
+
+-- The keys of a node that nobody names may be any: every other space keeps its map. So does it when such a node is taken
+-- or given back.
+abbrev pub UnnamedKeepsMaps : Type 0
+UnnamedKeepsMaps =
+    (keys content : ℕ → Key) (node : ℕ)
+    → NobodyNames keys (NodeObject node)
+    → (space : ℕ) → space ≢ node → map_of (filled keys node content) space ≡ map_of keys space

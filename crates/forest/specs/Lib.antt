@@ -2,4 +2,5 @@
 pub mod Objects
 pub mod Walks
 pub mod Forest
+pub mod Changes
 pub mod Laws

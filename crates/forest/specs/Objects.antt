@@ -37,4 +37,4 @@ names object key = is_object object (named key)
 
 -- a table of objects, with x at one of them
 unfoldable pub with_object : {X : Type 0} → (Object → X) → Object → X → Object → X
-with_object table object x = λ other. if same_object object other then x else table other
+with_object table object x = λ other. if same_object other object then x else table other

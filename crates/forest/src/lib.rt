@@ -1,4 +1,17 @@
-//! The theory of address spaces as shared trees: definitions, and their laws.
+//! The theory of address spaces as shared trees: what a forest is, and the laws that copying on write rests on.
+//!
+//! A forest is a table of keys in which trees share what stands below their roots (`specs/Forest.antt`). A space is a
+//! tree's root, and stands for a flat map from page numbers to pages. Each law is the contract of a function without
+//! parameters, whose body does nothing: its statement stands in `specs/`, its proof in `proofs/`.
 #![tactic(auto)]
 
-mod law;
+mod exact;
+mod maps;
+mod own;
+
+pub use exact::{
+    give_is_exact, hand_in_is_exact, hand_out_is_exact, lower_is_exact, raise_is_exact,
+    take_is_exact, write_is_exact,
+};
+pub use maps::{detach_keeps_maps, fresh_keeps_maps, share_keeps_maps, unnamed_keeps_maps};
+pub use own::{own_is_alone, own_page_is_alone};

@@ -1,0 +1,56 @@
+-- Changes of a forest: counts, owners and keys, one at a time, and what is made of them.
+use Rattle.std.specs.Prelude.{◌≡◌, ◌+◌, ◌-◌, ◌/◌, ◌%◌, ℕ, Bool, ◌==◌, if◌then◌else◌, Option, Some, None}
+use Rattle.kn_base.specs.declared.key.Key.{Key}
+use Rattle.kn_base.specs.declared.key.Key.TheVariants.{Null, Number, Page, Node, Segment, Start, Resume, Domain, Meter, Service}
+use Rattle.unix_model.specs.Tables.{at, with_at}
+use Rattle.forest.specs.Objects.{Object, PageObject, NodeObject, Owner, named, names, with_object}
+use Rattle.forest.specs.Walks.{place_of, key_below}
+use Rattle.forest.specs.Forest.{Forest}
+
+-- the forest with another stored count of an object
+abbrev pub with_count : Forest → Object → ℕ → Forest
+with_count forest object count = record forest { count = with_object forest.count object count }
+
+-- the forest with a key written at a place
+abbrev pub with_key : Forest → ℕ → Key → Forest
+with_key forest place key = record forest { keys = with_at forest.keys place key }
+
+-- the object that is there, if one is, is counted once more, or once less
+abbrev pub counted_more : Forest → Option Object → Forest
+counted_more forest None = forest
+counted_more forest (Some object) = with_count forest object (forest.count object + 1)
+
+abbrev pub counted_less : Forest → Option Object → Forest
+counted_less forest None = forest
+counted_less forest (Some object) = with_count forest object (forest.count object - 1)
+
+-- what a key names is counted once more, or once less
+abbrev pub raised : Forest → Key → Forest
+raised forest key = counted_more forest (named key)
+
+abbrev pub lowered : Forest → Key → Forest
+lowered forest key = counted_less forest (named key)
+
+-- a fresh object, which is counted once
+abbrev pub with_taken : Forest → Object → Owner → Forest
+with_taken forest object owner =
+    record forest { owner = with_object forest.owner object (Some owner); count = with_object forest.count object 1 }
+
+-- an object that is given back
+abbrev pub with_given : Forest → Object → Forest
+with_given forest object =
+    record forest { owner = with_object forest.owner object None; count = with_object forest.count object 0 }
+
+-- what names objects from outside, and one key more
+unfoldable pub and_outside : (Object → ℕ) → Key → Object → ℕ
+and_outside outside key object = outside object + (if names object key then 1 else 0)
+
+-- the keys, with these sixteen in a node
+unfoldable pub filled : (ℕ → Key) → ℕ → (ℕ → Key) → ℕ → Key
+filled keys node content place = if place / 16 == node then content (place % 16) else at keys place
+
+-- The keys after a fresh node of a height was put at a place. It has the keys of the node that stood there, or Null keys
+-- where none did.
+abbrev pub with_fresh : (ℕ → Key) → ℕ → ℕ → ℕ → ℕ → Key
+with_fresh keys place fresh height =
+    with_at (filled keys fresh (key_below keys (at keys place))) place (Segment (record { 0 = fresh }) height)

@@ -1,0 +1,24 @@
+//! Changes that leave the maps of spaces as they are.
+
+ghost use Rattle.forest.specs.Laws.{FreshKeepsMaps, DetachKeepsMaps, ShareKeepsMaps, UnnamedKeepsMaps};
+
+/// A fresh node is put in the place of a shared node that it copies, or in an empty place: every other space keeps
+/// its map.
+pub fn fresh_keeps_maps()
+    ensures { FreshKeepsMaps }
+{}
+
+/// The key of a node without keys is taken from its place: every space keeps its map.
+pub fn detach_keeps_maps()
+    ensures { DetachKeepsMaps }
+{}
+
+/// A second root over the same children has the map of the first, and every other space keeps its own.
+pub fn share_keeps_maps()
+    ensures { ShareKeepsMaps }
+{}
+
+/// The keys of a node that nobody names make no difference to any other space.
+pub fn unnamed_keeps_maps()
+    ensures { UnnamedKeepsMaps }
+{}
