@@ -44,7 +44,7 @@ pub in_hand-cons : (key : Key) (hand : List Key) (object : Object) → in_hand (
 unfolding in_hand
 in_hand-cons key hand object = sum_by-cons (λ k. bit (names object k)) key hand
 
-with_object-here : {X : Type 0} (table : Object → X) (object : Object) (x : X) → with_object table object x object ≡ x
+pub with_object-here : {X : Type 0} (table : Object → X) (object : Object) (x : X) → with_object table object x object ≡ x
 unfolding with_object
 with_object-here table object x = rw (same_object-same object) refl
 
@@ -120,7 +120,7 @@ write forest outside hand place key within exact = record {
       omega arith;
 }
 
-not_named : (key : Key) (object : Object) → named key ≢ Some object → names object key ≡ false
+pub not_named : (key : Key) (object : Object) → named key ≢ Some object → names object key ≡ false
 not_named key object differs = ⊎_elim
     (λ (e : names object key ≡ true). absurd (differs (names-true object key e)))
     (λ (e : names object key ≡ false). e)

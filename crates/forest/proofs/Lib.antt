@@ -3,3 +3,5 @@ pub mod CountLaws
 pub mod OwnLaws
 pub mod ExactLaws
 pub mod MapLaws
+pub mod OwnMaps
+pub mod CopyLaws

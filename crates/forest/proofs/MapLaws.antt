@@ -56,7 +56,7 @@ same_map old new space other same = fun_ext (λ page. ⊎_elim
     (λ (e : nat_lt page (2 ^ 19) ≡ false). rw e refl)
     (cases_Bool (nat_lt page (2 ^ 19))))
 
-not_the_node : (space node : ℕ) → space ≢ node → named (space_key space) ≢ Some (NodeObject node)
+pub not_the_node : (space node : ℕ) → space ≢ node → named (space_key space) ≢ Some (NodeObject node)
 not_the_node space node apart e = apart (let is : space ≡ node = cc in is)
 
 pub unnamed_keeps_maps : UnnamedKeepsMaps

@@ -70,7 +70,7 @@ own_is_alone forest outside hand space other way other_way object sound exact is
     (alone_way forest outside hand sound exact space way own) object ends other_ends
 
 -- a page number is known by its digits
-same_page : (a b : ℕ) → a < 2 ^ 19 → b < 2 ^ 19 → page_way a ≡ page_way b → a ≡ b
+pub same_page : (a b : ℕ) → a < 2 ^ 19 → b < 2 ^ 19 → page_way a ≡ page_way b → a ≡ b
 unfolding page_way digits
 same_page a b a_below b_below e =
     let e0 : a % 16 ≡ b % 16 = cc in

@@ -1,11 +1,11 @@
 -- Changes of a forest: counts, owners and keys, one at a time, and what is made of them.
-use Rattle.std.specs.Prelude.{◌≡◌, ◌+◌, ◌-◌, ◌/◌, ◌%◌, ℕ, Bool, ◌==◌, if◌then◌else◌, Option, Some, None}
+use Rattle.std.specs.Prelude.{◌≡◌, ◌+◌, ◌-◌, ◌/◌, ◌%◌, ℕ, Bool, ◌==◌, if◌then◌else◌, Option, Some, None, List}
 use Rattle.kn_base.specs.declared.key.Key.{Key}
 use Rattle.kn_base.specs.declared.key.Key.TheVariants.{Null, Number, Page, Node, Segment, Start, Resume, Domain, Meter, Service}
-use Rattle.unix_model.specs.Tables.{at, with_at}
+use Rattle.unix_model.specs.Tables.{at, with_at, count_below}
 use Rattle.forest.specs.Objects.{Object, PageObject, NodeObject, Owner, named, names, with_object}
 use Rattle.forest.specs.Walks.{place_of, key_below}
-use Rattle.forest.specs.Forest.{Forest}
+use Rattle.forest.specs.Forest.{Forest, in_hand}
 
 -- the forest with another stored count of an object
 abbrev pub with_count : Forest → Object → ℕ → Forest
@@ -54,3 +54,25 @@ filled keys node content place = if place / 16 == node then content (place % 16)
 abbrev pub with_fresh : (ℕ → Key) → ℕ → ℕ → ℕ → ℕ → Key
 with_fresh keys place fresh height =
     with_at (filled keys fresh (key_below keys (at keys place))) place (Segment (record { 0 = fresh }) height)
+
+-- an object that belongs to no tree, and that nothing outside and no key in hand names
+pub record IsFree (forest : Forest) (outside : Object → ℕ) (hand : List Key) (object : Object) : Type 0 where
+  pub unowned : forest.owner object ≡ None
+  pub none_outside : outside object ≡ 0
+  pub none_in_hand : in_hand hand object ≡ 0
+
+-- how often an object is counted after a node that stood at a place was copied: once less at the place, and once more for
+-- each of the sixteen keys that name it
+unfoldable pub copied_count : Forest → ℕ → Object → ℕ
+copied_count forest place object =
+    forest.count object - (if names object (at forest.keys place) then 1 else 0)
+    + count_below (λ digit. names object (key_below forest.keys (at forest.keys place) digit)) 16
+
+-- The forest after a fresh node of a height was put at a place: a copy of the node that stood there, whose keys are all
+-- counted once more, or an empty node where none stood.
+abbrev pub with_copy : Forest → ℕ → ℕ → ℕ → Owner → Forest
+with_copy forest place fresh height owner = record forest {
+  keys = with_fresh forest.keys place fresh height;
+  owner = with_object forest.owner (NodeObject fresh) (Some owner);
+  count = with_object (copied_count forest place) (NodeObject fresh) 1;
+}

@@ -1,12 +1,12 @@
 -- A forest: the nodes and pages that belong to trees, with what names them. Several trees may share what stands below
 -- their roots.
-use Rattle.std.specs.Prelude.{◌≡◌, ◌≢◌, ◌<◌, ◌≤◌, ◌+◌, ◌*◌, ◌/◌, ℕ, zero, suc, Bool, if◌then◌else◌, Option, Some, None, IsSome, IsSomeAnd, is_some, List, [], ◌∷◌, ⊤}
+use Rattle.std.specs.Prelude.{◌≡◌, ◌≢◌, ◌<◌, ◌≤◌, ◌+◌, ◌*◌, ◌/◌, ℕ, zero, suc, Bool, true, false, ◌&&◌, ◌==◌, if◌then◌else◌, Option, Some, None, IsSome, IsSomeAnd, is_some, List, [], ◌∷◌, ⊤}
 use Rattle.std.specs.List.{count_by}
 use Rattle.kn_base.specs.declared.key.Key.{Key}
 use Rattle.kn_base.specs.declared.key.Key.TheVariants.{Null, Number, Page, Node, Segment, Start, Resume, Domain, Meter, Service}
 use Rattle.unix_model.specs.Tables.{at, count_below}
 use Rattle.forest.specs.Objects.{Object, PageObject, NodeObject, Owner, named, names}
-use Rattle.forest.specs.Walks.{place_of, key_below, key_along, space_key, IsWay}
+use Rattle.forest.specs.Walks.{place_of, key_below, key_along, space_key, IsWay, digits}
 
 -- The number of nodes of the store, the keys of those nodes that belong to trees, the owner of each object that belongs to
 -- one, and how often each object is stored to be named.
@@ -92,3 +92,21 @@ OwnWay forest space (digit ∷ way) =
 -- a way from a space ends at a key that names an object
 abbrev pub EndsAt : (ℕ → Key) → ℕ → List ℕ → Object → Type 0
 EndsAt keys space way object = named (key_along keys (space_key space) way) ≡ Some object
+
+-- the way to the node of height 1 in which a page of a space stands
+unfoldable pub node_way : ℕ → List ℕ
+node_way page = digits 4 (page / 16)
+
+-- whether a key names an object that is counted once
+abbrev pub is_counted_once : Forest → Option Object → Bool
+is_counted_once forest None = false
+is_counted_once forest (Some object) = forest.count object == 1
+
+-- How many nodes are taken to make a way this space's own: none as long as each object on it is counted once, and from the
+-- first one that isn't, or isn't there, one for each digit, since what stands below a copied node is shared.
+abbrev pub nodes_to_take : Forest → ℕ → List ℕ → ℕ
+nodes_to_take forest space [] = 0
+nodes_to_take forest space (digit ∷ way) =
+    if nodes_to_take forest space way == 0 && is_counted_once forest (named (key_along forest.keys (space_key space) (digit ∷ way)))
+    then 0
+    else nodes_to_take forest space way + 1

@@ -1,12 +1,12 @@
 -- The laws of shared trees, each as one statement.
-use Rattle.std.specs.Prelude.{◌≡◌, ◌≢◌, ◌<◌, ◌*◌, ◌/◌, ◌^◌, ℕ, Option, Some, None, List, ◌∷◌}
+use Rattle.std.specs.Prelude.{◌≡◌, ◌≢◌, ◌<◌, ◌≤◌, ◌↔◌, ◌*◌, ◌/◌, ◌%◌, ◌^◌, ◌+◌, ℕ, Option, Some, None, List, ◌∷◌}
 use Rattle.kn_base.specs.declared.key.Key.{Key}
 use Rattle.kn_base.specs.declared.key.Key.TheVariants.{Null, Number, Page, Node, Segment, Start, Resume, Domain, Meter, Service}
 use Rattle.unix_model.specs.Tables.{at, with_at}
 use Rattle.forest.specs.Objects.{Object, PageObject, NodeObject, Owner, named}
 use Rattle.forest.specs.Walks.{key_along, space_key, IsWay, page_way, Mapping, mapping_of, map_of, place_of}
-use Rattle.forest.specs.Forest.{Forest, Exact, Sound, IsSpace, OwnWay, EndsAt, NobodyNames, in_hand}
-use Rattle.forest.specs.Changes.{raised, lowered, with_key, with_taken, with_given, and_outside, filled, with_fresh}
+use Rattle.forest.specs.Forest.{Forest, Exact, Sound, IsSpace, OwnWay, EndsAt, NobodyNames, in_hand, node_way, nodes_to_take}
+use Rattle.forest.specs.Changes.{raised, lowered, with_key, with_taken, with_given, and_outside, filled, with_fresh, with_copy, IsFree}
 
 -- What a space reaches on a way of objects that are counted once is reached by no other space, and by this space on no
 -- other way.
@@ -101,3 +101,31 @@ UnnamedKeepsMaps =
     (keys content : ℕ → Key) (node : ℕ)
     → NobodyNames keys (NodeObject node)
     → (space : ℕ) → space ≢ node → map_of (filled keys node content) space ≡ map_of keys space
+
+-- Writing the key at the end of an own way changes this space's map at this page number, and nothing else. Written Null,
+-- the page is mapped no more.
+abbrev pub WriteChangesOneMap : Type 0
+WriteChangesOneMap =
+    (forest : Forest) (outside : Object → ℕ) (hand : List Key) (space page node : ℕ) (key : Key)
+    → Sound forest hand → Exact forest outside hand → IsSpace forest hand space → page < 2 ^ 19
+    → OwnWay forest space (node_way page) → EndsAt forest.keys space (node_way page) (NodeObject node)
+    → (map_of (with_at forest.keys (place_of node (page % 16)) key) space ≡ with_at (map_of forest.keys space) page (mapping_of key))
+    × ((other : ℕ) → IsSpace forest hand other → other ≢ space
+    → map_of (with_at forest.keys (place_of node (page % 16)) key) other ≡ map_of forest.keys other)
+
+-- One level down an own way: what stands there is copied, or a fresh node put where nothing stands, and the way is this
+-- space's own for one digit more.
+abbrev pub CopyMakesOwn : Type 0
+CopyMakesOwn =
+    (forest : Forest) (outside : Object → ℕ) (hand : List Key) (space node digit fresh height : ℕ) (way : List ℕ) (owner : Owner)
+    → Sound forest hand → Exact forest outside hand → IsSpace forest hand space → IsFree forest outside hand (NodeObject fresh)
+    → IsWay way → digit < 16 → OwnWay forest space way → EndsAt forest.keys space way (NodeObject node)
+    → OwnWay (with_copy forest (place_of node digit) fresh height owner) space (digit ∷ way)
+    × EndsAt (with_copy forest (place_of node digit) fresh height owner).keys space (digit ∷ way) (NodeObject fresh)
+
+-- At most four nodes are taken to make the way to a page this space's own, and none exactly where it is its own.
+abbrev pub FewNodesToTake : Type 0
+FewNodesToTake =
+    (forest : Forest) (space page : ℕ)
+    → (nodes_to_take forest space (node_way page) ≤ 4)
+    × ((nodes_to_take forest space (node_way page) ≡ 0) ↔ OwnWay forest space (node_way page))

@@ -13,5 +13,8 @@ pub use exact::{
     give_is_exact, hand_in_is_exact, hand_out_is_exact, lower_is_exact, raise_is_exact,
     take_is_exact, write_is_exact,
 };
-pub use maps::{detach_keeps_maps, fresh_keeps_maps, share_keeps_maps, unnamed_keeps_maps};
-pub use own::{own_is_alone, own_page_is_alone};
+pub use maps::{
+    detach_keeps_maps, fresh_keeps_maps, share_keeps_maps, unnamed_keeps_maps,
+    write_changes_one_map,
+};
+pub use own::{copy_makes_own, few_nodes_to_take, own_is_alone, own_page_is_alone};

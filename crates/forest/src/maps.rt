@@ -1,6 +1,6 @@
 //! Changes that leave the maps of spaces as they are.
 
-ghost use Rattle.forest.specs.Laws.{FreshKeepsMaps, DetachKeepsMaps, ShareKeepsMaps, UnnamedKeepsMaps};
+ghost use Rattle.forest.specs.Laws.{FreshKeepsMaps, DetachKeepsMaps, ShareKeepsMaps, WriteChangesOneMap, UnnamedKeepsMaps};
 
 /// A fresh node is put in the place of a shared node that it copies, or in an empty place: every other space keeps
 /// its map.
@@ -16,6 +16,11 @@ pub fn detach_keeps_maps()
 /// A second root over the same children has the map of the first, and every other space keeps its own.
 pub fn share_keeps_maps()
     ensures { ShareKeepsMaps }
+{}
+
+/// Writing the key at the end of an own way changes the map of this space at this page number, and nothing else.
+pub fn write_changes_one_map()
+    ensures { WriteChangesOneMap }
 {}
 
 /// The keys of a node that nobody names make no difference to any other space.

@@ -1,6 +1,16 @@
 //! What is counted once is reached once.
 
-ghost use Rattle.forest.specs.Laws.{OwnIsAlone, OwnPageIsAlone};
+ghost use Rattle.forest.specs.Laws.{CopyMakesOwn, FewNodesToTake, OwnIsAlone, OwnPageIsAlone};
+
+/// A node that is copied, or put where none stood, at the end of an own way makes the way own for one digit more.
+pub fn copy_makes_own()
+    ensures { CopyMakesOwn }
+{}
+
+/// At most four nodes are taken to make the way to a page own, and none exactly where it is own.
+pub fn few_nodes_to_take()
+    ensures { FewNodesToTake }
+{}
 
 /// What a space reaches on a way of objects that are counted once is reached by no other space, and by this one on no
 /// other way.
