@@ -17,22 +17,22 @@ use Rattle.forest.proofs.ExactLaws.{not_named, with_object-here}
 use Rattle.forest.proofs.MapLaws.{node_key, Like, same, replaced, Fresh, fresh_is, like_along, not_the_node}
 
 -- an object without an owner is named by nobody
-pub free_unnamed : (forest : Forest) (hand : List Key) → Sound forest hand → (object : Object) → forest.owner object ≡ None
+pub free_unnamed : (forest : Forest) → Sound forest → (object : Object) → forest.owner object ≡ None
     → NobodyNames forest.keys object
-free_unnamed forest hand sound object unowned place h =
-    let some : is_some (forest.owner object) ≡ true = owned_object forest hand sound place object h in
+free_unnamed forest sound object unowned place h =
+    let some : is_some (forest.owner object) ≡ true = owned_object forest sound place object h in
     let none : is_some (forest.owner object) ≡ false = ap is_some unowned in
     let contra : true ≡ false = sym some ∙ none in cc
 
 -- what a space reaches has an owner
-pub end_owned : (forest : Forest) (hand : List Key) → Sound forest hand → (space : ℕ) → IsSpace forest hand space
+pub end_owned : (forest : Forest) (hand : List Key) → Sound forest → (space : ℕ) → IsSpace forest hand space
     → (way : List ℕ) (object : Object) → EndsAt forest.keys space way object → IsSome (forest.owner object)
 end_owned forest hand sound space is_space [] object ends =
     let is : NodeObject space ≡ object = cc in
     ap (λ o. is_some (forest.owner o)) (sym is) ∙ is_space.owned
 end_owned forest hand sound space is_space (digit ∷ way) object ends =
     let s = step forest.keys (key_along forest.keys (space_key space) way) digit object ends in
-    owned_object forest hand sound (place_of s.node digit) object s.here
+    owned_object forest sound (place_of s.node digit) object s.here
 
 -- the object that is counted once
 pub record Once (forest : Forest) (key : Key) : Type 0 where
@@ -59,7 +59,7 @@ none_below f (suc n) h = let e = none_below f n (λ q less. h q (omega arith)) i
 
 -- what is known where a node is copied
 record Copying (forest : Forest) (outside : Object → ℕ) (hand : List Key) (space node digit fresh : ℕ) (way : List ℕ) : Type 0 where
-  sound : Sound forest hand
+  sound : Sound forest
   exact : Exact forest outside hand
   is_space : IsSpace forest hand space
   free : IsFree forest outside hand (NodeObject fresh)
@@ -82,7 +82,7 @@ module _ (forest : Forest) (outside : Object → ℕ) (hand : List Key) (space n
   at_place = (node_key forest.keys (key_along forest.keys (space_key space) way) node c.ends).below digit
 
   nobody : NobodyNames forest.keys (NodeObject fresh)
-  nobody = free_unnamed forest hand c.sound (NodeObject fresh) c.free.unowned
+  nobody = free_unnamed forest c.sound (NodeObject fresh) c.free.unowned
 
   not_fresh : (number : ℕ) → IsSome (forest.owner (NodeObject number)) → number ≢ fresh
   not_fresh number owned e =

@@ -56,7 +56,7 @@ count-more forest (Some other) object = ⊎_elim
     (λ (e : same_object object other ≡ false). rw e (omega arith))
     (cases_Bool (same_object object other))
 
-count-less : (forest : Forest) (there : Option Object) (object : Object) → (counted_less forest there).count object ≡ forest.count object - bit (is_object object there)
+pub count-less : (forest : Forest) (there : Option Object) (object : Object) → (counted_less forest there).count object ≡ forest.count object - bit (is_object object there)
 unfolding with_object
 count-less forest None object = omega arith
 count-less forest (Some other) object = ⊎_elim
@@ -65,7 +65,7 @@ count-less forest (Some other) object = ⊎_elim
     (cases_Bool (same_object object other))
 
 -- counts alone have changed
-record SameKeys (old new : Forest) : Type 0 where
+pub record SameKeys (old new : Forest) : Type 0 where
   owner : new.owner ≡ old.owner
   same_namings : (object : Object) → namings new object ≡ namings old object
 
@@ -74,7 +74,7 @@ unfolding namings
 more-same forest None = record { owner = refl; same_namings = λ object. refl }
 more-same forest (Some other) = record { owner = refl; same_namings = λ object. refl }
 
-less-same : (forest : Forest) (there : Option Object) → SameKeys forest (counted_less forest there)
+pub less-same : (forest : Forest) (there : Option Object) → SameKeys forest (counted_less forest there)
 unfolding namings
 less-same forest None = record { owner = refl; same_namings = λ object. refl }
 less-same forest (Some other) = record { owner = refl; same_namings = λ object. refl }

@@ -5,3 +5,4 @@ pub mod ExactLaws
 pub mod MapLaws
 pub mod OwnMaps
 pub mod CopyLaws
+pub mod ReleaseLaws

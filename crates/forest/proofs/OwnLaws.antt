@@ -13,50 +13,50 @@ use Rattle.forest.proofs.WalkLaws.{Alone, AloneWay, central}
 use Rattle.forest.proofs.CountLaws.{true-names, counted_one, counted_two}
 
 -- the node of a place at which something is named belongs to a tree
-pub owned_node : (forest : Forest) (hand : List Key) → Sound forest hand → (place : ℕ) (object : Object)
+pub owned_node : (forest : Forest) → Sound forest → (place : ℕ) (object : Object)
     → named (at forest.keys place) ≡ Some object → IsSome (forest.owner (NodeObject (place / 16)))
-owned_node forest hand sound place object h = go (forest.owner (NodeObject (place / 16))) refl
+owned_node forest sound place object h = go (forest.owner (NodeObject (place / 16))) refl
   where
     go : (owner : Option Owner) → forest.owner (NodeObject (place / 16)) ≡ owner → IsSome (forest.owner (NodeObject (place / 16)))
     go None e = absurd (let null : named Null ≡ Some object = ap named (sym (sound.masked place e)) ∙ h in cc)
     go (Some owner) e = ap is_some e
 
 -- and so does what is named there
-pub owned_object : (forest : Forest) (hand : List Key) → Sound forest hand → (place : ℕ) (object : Object)
+pub owned_object : (forest : Forest) → Sound forest → (place : ℕ) (object : Object)
     → named (at forest.keys place) ≡ Some object → IsSome (forest.owner object)
-owned_object forest hand sound place object h =
-    ap is_some (sound.owned place object h) ∙ owned_node forest hand sound place object h
+owned_object forest sound place object h =
+    ap is_some (sound.owned place object h) ∙ owned_node forest sound place object h
 
 -- the place is one of the store's
-pub place_within : (forest : Forest) (hand : List Key) → Sound forest hand → (place : ℕ) (object : Object)
+pub place_within : (forest : Forest) → Sound forest → (place : ℕ) (object : Object)
     → named (at forest.keys place) ≡ Some object → place < 16 * forest.nodes
-place_within forest hand sound place object h =
-    let inside = sound.within (place / 16) (owned_node forest hand sound place object h) in omega arith
+place_within forest sound place object h =
+    let inside = sound.within (place / 16) (owned_node forest sound place object h) in omega arith
 
 -- two places that name an object count twice
-pub named_twice : (forest : Forest) (hand : List Key) → Sound forest hand → (object : Object) (p q : ℕ) → p < q
+pub named_twice : (forest : Forest) → Sound forest → (object : Object) (p q : ℕ) → p < q
     → named (at forest.keys p) ≡ Some object → named (at forest.keys q) ≡ Some object → 2 ≤ namings forest object
 unfolding namings
-named_twice forest hand sound object p q less h k =
+named_twice forest sound object p q less h k =
     counted_two (λ place. names object (at forest.keys place)) (16 * forest.nodes) p q less
-    (place_within forest hand sound q object k) (true-names object (at forest.keys p) h) (true-names object (at forest.keys q) k)
+    (place_within forest sound q object k) (true-names object (at forest.keys p) h) (true-names object (at forest.keys q) k)
 
 -- what is counted once is named by one place alone
-pub alone : (forest : Forest) (outside : Object → ℕ) (hand : List Key) → Sound forest hand → Exact forest outside hand
+pub alone : (forest : Forest) (outside : Object → ℕ) (hand : List Key) → Sound forest → Exact forest outside hand
     → (object : Object) → forest.count object ≡ 1 → Alone forest.keys object
 alone forest outside hand sound exact object once p q h k =
-    let counted = exact.counted object (owned_object forest hand sound p object h) in
+    let counted = exact.counted object (owned_object forest sound p object h) in
     ⊎_elim (λ (e : p ≡ q). e)
     (⊎_elim
-    (λ (less : p < q). let two = named_twice forest hand sound object p q less h k in absurd (omega arith))
-    (λ (less : q < p). let two = named_twice forest hand sound object q p less k h in absurd (omega arith)))
+    (λ (less : p < q). let two = named_twice forest sound object p q less h k in absurd (omega arith))
+    (λ (less : q < p). let two = named_twice forest sound object q p less k h in absurd (omega arith)))
     (cases_order p q)
 
 -- a key that names an object counted once
 pub once_at : (forest : Forest) (key : Key) (object : Object) → CountedOnce forest key → named key ≡ Some object → forest.count object ≡ 1
 once_at forest key object once e = rw e at once
 
-pub alone_way : (forest : Forest) (outside : Object → ℕ) (hand : List Key) → Sound forest hand → Exact forest outside hand
+pub alone_way : (forest : Forest) (outside : Object → ℕ) (hand : List Key) → Sound forest → Exact forest outside hand
     → (space : ℕ) (way : List ℕ) → OwnWay forest space way → AloneWay forest.keys space way
 alone_way forest outside hand sound exact space [] own = tt
 alone_way forest outside hand sound exact space (digit ∷ way) own = (

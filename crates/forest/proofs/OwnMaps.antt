@@ -17,7 +17,7 @@ use Rattle.forest.proofs.OwnLaws.{alone_way, own_is_alone, owned_object, way_of_
 use Rattle.forest.proofs.MapLaws.{node_key, same_map}
 
 -- a key written at a place that isn't stepped on
-below_write : (keys : ℕ → Key) (place : ℕ) (key upper : Key) (digit : ℕ)
+pub below_write : (keys : ℕ → Key) (place : ℕ) (key upper : Key) (digit : ℕ)
     → ((node : ℕ) → named upper ≡ Some (NodeObject node) → place_of node digit ≢ place)
     → key_below (with_at keys place key) upper digit ≡ key_below keys upper digit
 below_write keys place key (Segment n height) digit off = at-with_at-other keys place (place_of n.0 digit) key (off n.0 refl)
@@ -80,7 +80,7 @@ unfolding node_way digits
 length-node_way page = refl
 
 pub own_end : (forest : Forest) (outside : Object → ℕ) (hand : List Key) (space node : ℕ) (way : List ℕ)
-    → Sound forest hand → Exact forest outside hand → IsSpace forest hand space → IsWay way → OwnWay forest space way
+    → Sound forest → Exact forest outside hand → IsSpace forest hand space → IsWay way → OwnWay forest space way
     → EndsAt forest.keys space way (NodeObject node) → OwnEnd forest.keys space way node
 own_end forest outside hand space node way sound exact is_space w own ends = record {
   free = is_space.unnamed;

@@ -56,6 +56,11 @@ abbrev pub FitsBelow : Key → Key → Type 0
 FitsBelow (Segment node height) key = FitsUnder height key
 FitsBelow _ key = ⊤
 
+-- the height of the node for which a key stands, and 0 for all other keys
+abbrev pub key_height : Key → ℕ
+key_height (Segment node height) = height
+key_height _ = 0
+
 -- A root has height 5. Its first eight keys are its parts, the last one is the keeper's and names no part of a tree, and
 -- those between are Null.
 pub record IsRoot (keys : ℕ → Key) (space : ℕ) : Type 0 where
@@ -63,15 +68,19 @@ pub record IsRoot (keys : ℕ → Key) (space : ℕ) : Type 0 where
   pub unused : (digit : ℕ) → 8 ≤ digit → digit < 15 → at keys (place_of space digit) ≡ Null
   pub keeper : named (at keys (place_of space 15)) ≡ None
 
--- The rules of single places. Heights fall by one, each root is as a root is, the owner of a child is its parent's, and a
--- node that belongs to no tree has no key in the forest.
-pub record Sound (forest : Forest) (hand : List Key) : Type 0 where
+-- The rules of single places: below a root heights are 1 to 4 and fall by one, the owner of a child is its parent's, and a node that belongs to no tree
+-- has no key in the forest.
+pub record Sound (forest : Forest) : Type 0 where
   pub within : (node : ℕ) → IsSome (forest.owner (NodeObject node)) → node < forest.nodes
   pub masked : (place : ℕ) → forest.owner (NodeObject (place / 16)) ≡ None → at forest.keys place ≡ Null
   pub owned : (place : ℕ) (object : Object) → named (at forest.keys place) ≡ Some object
       → forest.owner object ≡ forest.owner (NodeObject (place / 16))
   pub heights : (place digit : ℕ) → digit < 16 → FitsBelow (at forest.keys place) (key_below forest.keys (at forest.keys place) digit)
-  pub roots : (space : ℕ) → IsSpace forest hand space → IsRoot forest.keys space
+  pub low : (place : ℕ) → key_height (at forest.keys place) < 5
+
+-- each space is as a root is
+abbrev pub Rooted : Forest → List Key → Type 0
+Rooted forest hand = (space : ℕ) → IsSpace forest hand space → IsRoot forest.keys space
 
 -- no node below a root is empty
 abbrev pub NoneEmpty : (ℕ → Key) → Type 0

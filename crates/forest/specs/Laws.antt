@@ -1,19 +1,20 @@
 -- The laws of shared trees, each as one statement.
-use Rattle.std.specs.Prelude.{◌≡◌, ◌≢◌, ◌<◌, ◌≤◌, ◌↔◌, ◌*◌, ◌/◌, ◌%◌, ◌^◌, ◌+◌, ℕ, Option, Some, None, List, ◌∷◌}
+use Rattle.std.specs.Prelude.{◌≡◌, ◌≢◌, ◌<◌, ◌≤◌, ◌↔◌, ◌*◌, ◌/◌, ◌%◌, ◌^◌, ◌+◌, ℕ, Option, Some, None, IsSome, List, ◌∷◌}
 use Rattle.kn_base.specs.declared.key.Key.{Key}
 use Rattle.kn_base.specs.declared.key.Key.TheVariants.{Null, Number, Page, Node, Segment, Start, Resume, Domain, Meter, Service}
 use Rattle.unix_model.specs.Tables.{at, with_at}
 use Rattle.forest.specs.Objects.{Object, PageObject, NodeObject, Owner, named}
-use Rattle.forest.specs.Walks.{key_along, space_key, IsWay, page_way, Mapping, mapping_of, map_of, place_of}
-use Rattle.forest.specs.Forest.{Forest, Exact, Sound, IsSpace, OwnWay, EndsAt, NobodyNames, in_hand, node_way, nodes_to_take}
+use Rattle.forest.specs.Walks.{key_along, key_below, space_key, IsWay, page_way, Mapping, mapping_of, map_of, place_of}
+use Rattle.forest.specs.Forest.{Forest, Exact, Sound, IsSpace, OwnWay, EndsAt, NobodyNames, in_hand, namings, node_way, nodes_to_take, FitsBelow, key_height}
 use Rattle.forest.specs.Changes.{raised, lowered, with_key, with_taken, with_given, and_outside, filled, with_fresh, with_copy, IsFree}
+use Rattle.forest.specs.Release.{Held, Release}
 
 -- What a space reaches on a way of objects that are counted once is reached by no other space, and by this space on no
 -- other way.
 abbrev pub OwnIsAlone : Type 0
 OwnIsAlone =
     (forest : Forest) (outside : Object → ℕ) (hand : List Key) (space other : ℕ) (way other_way : List ℕ) (object : Object)
-    → Sound forest hand → Exact forest outside hand → IsSpace forest hand space → IsSpace forest hand other
+    → Sound forest → Exact forest outside hand → IsSpace forest hand space → IsSpace forest hand other
     → IsWay way → IsWay other_way → OwnWay forest space way
     → EndsAt forest.keys space way object → EndsAt forest.keys other other_way object
     → (other ≡ space) × (other_way ≡ way)
@@ -22,7 +23,7 @@ OwnIsAlone =
 abbrev pub OwnPageIsAlone : Type 0
 OwnPageIsAlone =
     (forest : Forest) (outside : Object → ℕ) (hand : List Key) (space other page other_page : ℕ) (found other_found : Mapping)
-    → Sound forest hand → Exact forest outside hand → IsSpace forest hand space → IsSpace forest hand other
+    → Sound forest → Exact forest outside hand → IsSpace forest hand space → IsSpace forest hand other
     → OwnWay forest space (page_way page) → found.page ≢ 0
     → map_of forest.keys space page ≡ Some found → map_of forest.keys other other_page ≡ Some other_found
     → other_found.page ≡ found.page → (other ≡ space) × (other_page ≡ page)
@@ -107,7 +108,7 @@ UnnamedKeepsMaps =
 abbrev pub WriteChangesOneMap : Type 0
 WriteChangesOneMap =
     (forest : Forest) (outside : Object → ℕ) (hand : List Key) (space page node : ℕ) (key : Key)
-    → Sound forest hand → Exact forest outside hand → IsSpace forest hand space → page < 2 ^ 19
+    → Sound forest → Exact forest outside hand → IsSpace forest hand space → page < 2 ^ 19
     → OwnWay forest space (node_way page) → EndsAt forest.keys space (node_way page) (NodeObject node)
     → (map_of (with_at forest.keys (place_of node (page % 16)) key) space ≡ with_at (map_of forest.keys space) page (mapping_of key))
     × ((other : ℕ) → IsSpace forest hand other → other ≢ space
@@ -118,7 +119,7 @@ WriteChangesOneMap =
 abbrev pub CopyMakesOwn : Type 0
 CopyMakesOwn =
     (forest : Forest) (outside : Object → ℕ) (hand : List Key) (space node digit fresh height : ℕ) (way : List ℕ) (owner : Owner)
-    → Sound forest hand → Exact forest outside hand → IsSpace forest hand space → IsFree forest outside hand (NodeObject fresh)
+    → Sound forest → Exact forest outside hand → IsSpace forest hand space → IsFree forest outside hand (NodeObject fresh)
     → IsWay way → digit < 16 → OwnWay forest space way → EndsAt forest.keys space way (NodeObject node)
     → OwnWay (with_copy forest (place_of node digit) fresh height owner) space (digit ∷ way)
     × EndsAt (with_copy forest (place_of node digit) fresh height owner).keys space (digit ∷ way) (NodeObject fresh)
@@ -129,3 +130,26 @@ FewNodesToTake =
     (forest : Forest) (space page : ℕ)
     → (nodes_to_take forest space (node_way page) ≤ 4)
     × ((nodes_to_take forest space (node_way page) ≡ 0) ↔ OwnWay forest space (node_way page))
+
+-- Releasing keeps counts exact, and leaves every other space its map.
+abbrev pub ReleaseKeepsSpaces : Type 0
+ReleaseKeepsSpaces =
+    (old new : Forest) (outside : Object → ℕ) (old_hand new_hand : List Key)
+    → Held old outside old_hand → Release old old_hand new new_hand
+    → Held new outside new_hand
+    × ((space : ℕ) → IsSpace old old_hand space → IsSpace new new_hand space × (map_of new.keys space ≡ map_of old.keys space))
+
+-- Releasing gives back exactly what nothing names any more.
+abbrev pub ReleaseGivesUnnamed : Type 0
+ReleaseGivesUnnamed =
+    (old new : Forest) (outside : Object → ℕ) (old_hand new_hand : List Key)
+    → Held old outside old_hand → Release old old_hand new new_hand
+    → (object : Object) → IsSome (old.owner object)
+    → IsSome (new.owner object) ↔ (1 ≤ namings new object + outside object + in_hand new_hand object)
+
+-- Releasing goes down: a key that is taken out of a node stands lower than the node's own key.
+abbrev pub ReleaseGoesDown : Type 0
+ReleaseGoesDown =
+    (keys : ℕ → Key) (key : Key) (digit : ℕ) (object : Object)
+    → FitsBelow key (key_below keys key digit) → named (key_below keys key digit) ≡ Some object
+    → key_height (key_below keys key digit) < key_height key

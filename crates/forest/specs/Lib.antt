@@ -3,4 +3,5 @@ pub mod Objects
 pub mod Walks
 pub mod Forest
 pub mod Changes
+pub mod Release
 pub mod Laws

@@ -8,6 +8,7 @@
 mod exact;
 mod maps;
 mod own;
+mod release;
 
 pub use exact::{
     give_is_exact, hand_in_is_exact, hand_out_is_exact, lower_is_exact, raise_is_exact,
@@ -18,3 +19,4 @@ pub use maps::{
     write_changes_one_map,
 };
 pub use own::{copy_makes_own, few_nodes_to_take, own_is_alone, own_page_is_alone};
+pub use release::{release_gives_unnamed, release_goes_down, release_keeps_spaces};
