@@ -6,3 +6,5 @@ pub mod MapLaws
 pub mod OwnMaps
 pub mod CopyLaws
 pub mod ReleaseLaws
+pub mod ReachLaws
+pub mod LabelLaws

@@ -28,11 +28,11 @@ pub release_goes_down : ReleaseGoesDown
 release_goes_down keys (Segment node height) digit object fits h = lower_height height (at keys (place_of node.0 digit)) object fits h
 release_goes_down keys _ digit object fits h = cc
 
-some_not_none : {X : Type 0} (o : Option X) → IsSome o → o ≡ None → ⊥
+pub some_not_none : {X : Type 0} (o : Option X) → IsSome o → o ≡ None → ⊥
 some_not_none None h e = cc
 some_not_none (Some x) h e = cc
 
-none_or_some : {X : Type 0} (o : Option X) → (o ≡ None → ⊥) → IsSome o
+pub none_or_some : {X : Type 0} (o : Option X) → (o ≡ None → ⊥) → IsSome o
 none_or_some None h = absurd (h refl)
 none_or_some (Some x) h = refl
 
@@ -54,7 +54,7 @@ record LastKey (forest : Forest) (outside : Object → ℕ) (hand : List Key) (o
   none_outside : outside object ≡ 0
   none_in_hand : in_hand hand object ≡ 0
 
-unnamed : (forest : Forest) → Sound forest → (object : Object) → namings forest object ≡ 0 → NobodyNames forest.keys object
+pub unnamed : (forest : Forest) → Sound forest → (object : Object) → namings forest object ≡ 0 → NobodyNames forest.keys object
 unfolding namings
 unnamed forest sound object none place h =
     let one = counted_one (λ p. names object (at forest.keys p)) (16 * forest.nodes) place (place_within forest sound place object h)

@@ -119,3 +119,7 @@ nodes_to_take forest space (digit ∷ way) =
     if nodes_to_take forest space way == 0 && is_counted_once forest (named (key_along forest.keys (space_key space) (digit ∷ way)))
     then 0
     else nodes_to_take forest space way + 1
+
+-- pages of trees are named by keys of trees alone
+abbrev pub NoPageOutside : Forest → (Object → ℕ) → Type 0
+NoPageOutside forest outside = (page : ℕ) → IsSome (forest.owner (PageObject page)) → outside (PageObject page) ≡ 0

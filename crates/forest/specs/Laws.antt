@@ -1,13 +1,14 @@
 -- The laws of shared trees, each as one statement.
-use Rattle.std.specs.Prelude.{◌≡◌, ◌≢◌, ◌<◌, ◌≤◌, ◌↔◌, ◌*◌, ◌/◌, ◌%◌, ◌^◌, ◌+◌, ℕ, Option, Some, None, IsSome, List, ◌∷◌}
+use Rattle.std.specs.Prelude.{◌≡◌, ◌≢◌, ◌<◌, ◌≤◌, ◌↔◌, ◌*◌, ◌/◌, ◌%◌, ◌^◌, ◌+◌, ℕ, Option, Some, None, IsSome, List, [], ◌∷◌}
 use Rattle.kn_base.specs.declared.key.Key.{Key}
 use Rattle.kn_base.specs.declared.key.Key.TheVariants.{Null, Number, Page, Node, Segment, Start, Resume, Domain, Meter, Service}
-use Rattle.unix_model.specs.Tables.{at, with_at}
+use Rattle.unix_model.specs.Tables.{at, with_at, count_below}
 use Rattle.forest.specs.Objects.{Object, PageObject, NodeObject, Owner, named}
 use Rattle.forest.specs.Walks.{key_along, key_below, space_key, IsWay, page_way, Mapping, mapping_of, map_of, place_of}
-use Rattle.forest.specs.Forest.{Forest, Exact, Sound, IsSpace, OwnWay, EndsAt, NobodyNames, in_hand, namings, node_way, nodes_to_take, FitsBelow, key_height}
+use Rattle.forest.specs.Forest.{Forest, Exact, Sound, IsSpace, OwnWay, EndsAt, NobodyNames, in_hand, namings, node_way, nodes_to_take, FitsBelow, key_height, Rooted, NoPageOutside}
 use Rattle.forest.specs.Changes.{raised, lowered, with_key, with_taken, with_given, and_outside, filled, with_fresh, with_copy, IsFree}
 use Rattle.forest.specs.Release.{Held, Release}
+use Rattle.forest.specs.Labels.{IsIn, different, labels, TellsAlike, shared_page, IsProcessPlace, is_process}
 
 -- What a space reaches on a way of objects that are counted once is reached by no other space, and by this space on no
 -- other way.
@@ -153,3 +154,36 @@ ReleaseGoesDown =
     (keys : ℕ → Key) (key : Key) (digit : ℕ) (object : Object)
     → FitsBelow key (key_below keys key digit) → named (key_below keys key digit) ≡ Some object
     → key_height (key_below keys key digit) < key_height key
+
+-- Each object that belongs to a tree is reached by some space.
+abbrev pub EverythingIsReached : Type 0
+EverythingIsReached =
+    (forest : Forest) (outside : Object → ℕ) (object : Object)
+    → Held forest outside [] → NoPageOutside forest outside
+    → IsSome (forest.owner object)
+    → (space : ℕ) × (way : List ℕ) × IsSpace forest [] space × IsWay way × EndsAt forest.keys space way object
+
+-- Each page that belongs to a tree is mapped by some space of its owner.
+abbrev pub EveryPageIsMapped : Type 0
+EveryPageIsMapped =
+    (forest : Forest) (outside : Object → ℕ) (page : ℕ)
+    → Held forest outside [] → Rooted forest [] → NoPageOutside forest outside
+    → IsSome (forest.owner (PageObject page))
+    → (space : ℕ) × (number : ℕ) × IsSpace forest [] space × (forest.owner (NodeObject space) ≡ forest.owner (PageObject page))
+    × (number < 2 ^ 19) × (shared_page forest.keys (space, number) ≡ Some page)
+
+-- The number of pages that are taken as memory is the number of different pages, but for the page of zeros, in the maps of
+-- the processes' spaces.
+abbrev pub TakenIsDifferent : Type 0
+TakenIsDifferent =
+    (forest : Forest) (outside : Object → ℕ) (pages : ℕ) (places : List (ℕ × ℕ))
+    → Held forest outside [] → Rooted forest [] → NoPageOutside forest outside
+    → ((page : ℕ) → IsSome (forest.owner (PageObject page)) → page < pages)
+    → ((place : ℕ × ℕ) → IsIn place places ↔ IsProcessPlace forest place)
+    → count_below (λ page. is_process (forest.owner (PageObject page))) pages ≡ different (labels (shared_page forest.keys) places)
+
+-- Two ways of labelling that tell the same places apart have equally many labels.
+abbrev pub AlikeIsEquallyMany : Type 0
+AlikeIsEquallyMany =
+    (one two : ℕ × ℕ → Option ℕ) (places : List (ℕ × ℕ))
+    → TellsAlike one two places → different (labels one places) ≡ different (labels two places)

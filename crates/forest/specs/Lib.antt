@@ -4,4 +4,5 @@ pub mod Walks
 pub mod Forest
 pub mod Changes
 pub mod Release
+pub mod Labels
 pub mod Laws
