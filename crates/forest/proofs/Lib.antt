@@ -8,3 +8,4 @@ pub mod CopyLaws
 pub mod ReleaseLaws
 pub mod ReachLaws
 pub mod LabelLaws
+pub mod MappedLaws

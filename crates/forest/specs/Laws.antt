@@ -2,13 +2,14 @@
 use Rattle.std.specs.Prelude.{◌≡◌, ◌≢◌, ◌<◌, ◌≤◌, ◌↔◌, ◌*◌, ◌/◌, ◌%◌, ◌^◌, ◌+◌, ℕ, Option, Some, None, IsSome, List, [], ◌∷◌}
 use Rattle.kn_base.specs.declared.key.Key.{Key}
 use Rattle.kn_base.specs.declared.key.Key.TheVariants.{Null, Number, Page, Node, Segment, Start, Resume, Domain, Meter, Service}
-use Rattle.unix_model.specs.Tables.{at, with_at, count_below}
+use Rattle.unix_model.specs.Tables.{at, with_at, count_below, sum_below}
 use Rattle.forest.specs.Objects.{Object, PageObject, NodeObject, Owner, named}
 use Rattle.forest.specs.Walks.{key_along, key_below, space_key, IsWay, page_way, Mapping, mapping_of, map_of, place_of}
 use Rattle.forest.specs.Forest.{Forest, Exact, Sound, IsSpace, OwnWay, EndsAt, NobodyNames, in_hand, namings, node_way, nodes_to_take, FitsBelow, key_height, Rooted, NoPageOutside}
 use Rattle.forest.specs.Changes.{raised, lowered, with_key, with_taken, with_given, and_outside, filled, with_fresh, with_copy, IsFree}
 use Rattle.forest.specs.Release.{Held, Release}
 use Rattle.forest.specs.Labels.{IsIn, different, labels, TellsAlike, shared_page, IsProcessPlace, is_process}
+use Rattle.forest.specs.Mapped.{mapped, pages_below}
 
 -- What a space reaches on a way of objects that are counted once is reached by no other space, and by this space on no
 -- other way.
@@ -187,3 +188,9 @@ abbrev pub AlikeIsEquallyMany : Type 0
 AlikeIsEquallyMany =
     (one two : ℕ × ℕ → Option ℕ) (places : List (ℕ × ℕ))
     → TellsAlike one two places → different (labels one places) ≡ different (labels two places)
+
+-- The mapped pages of a space are those of its eight parts, and those below a node are those below its sixteen keys.
+abbrev pub MappedIsSum : Type 0
+MappedIsSum =
+    (keys : ℕ → Key) (space : ℕ)
+    → mapped keys space ≡ sum_below (λ digit. pages_below keys (at keys (place_of space digit)) 4) 8

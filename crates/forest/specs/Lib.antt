@@ -5,4 +5,5 @@ pub mod Forest
 pub mod Changes
 pub mod Release
 pub mod Labels
+pub mod Mapped
 pub mod Laws

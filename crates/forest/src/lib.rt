@@ -8,6 +8,7 @@
 mod exact;
 mod maps;
 mod own;
+mod reach;
 mod release;
 
 pub use exact::{
@@ -19,4 +20,8 @@ pub use maps::{
     write_changes_one_map,
 };
 pub use own::{copy_makes_own, few_nodes_to_take, own_is_alone, own_page_is_alone};
+pub use reach::{
+    alike_is_equally_many, every_page_is_mapped, everything_is_reached, mapped_is_sum,
+    taken_is_different,
+};
 pub use release::{release_gives_unnamed, release_goes_down, release_keeps_spaces};
