@@ -48,7 +48,7 @@ pub with_object-here : {X : Type 0} (table : Object → X) (object : Object) (x 
 unfolding with_object
 with_object-here table object x = rw (same_object-same object) refl
 
-count-more : (forest : Forest) (there : Option Object) (object : Object) → (counted_more forest there).count object ≡ forest.count object + bit (is_object object there)
+pub count-more : (forest : Forest) (there : Option Object) (object : Object) → (counted_more forest there).count object ≡ forest.count object + bit (is_object object there)
 unfolding with_object
 count-more forest None object = omega arith
 count-more forest (Some other) object = ⊎_elim
@@ -66,10 +66,10 @@ count-less forest (Some other) object = ⊎_elim
 
 -- counts alone have changed
 pub record SameKeys (old new : Forest) : Type 0 where
-  owner : new.owner ≡ old.owner
-  same_namings : (object : Object) → namings new object ≡ namings old object
+  pub owner : new.owner ≡ old.owner
+  pub same_namings : (object : Object) → namings new object ≡ namings old object
 
-more-same : (forest : Forest) (there : Option Object) → SameKeys forest (counted_more forest there)
+pub more-same : (forest : Forest) (there : Option Object) → SameKeys forest (counted_more forest there)
 unfolding namings
 more-same forest None = record { owner = refl; same_namings = λ object. refl }
 more-same forest (Some other) = record { owner = refl; same_namings = λ object. refl }

@@ -6,8 +6,7 @@ use Rattle.kn_base.specs.declared.key.Key.{Key}
 use Rattle.unix_model.specs.Tables.{at, count_below}
 use Rattle.forest.specs.Objects.{Object, PageObject, NodeObject, Owner, OfProcess, OfFile, named}
 use Rattle.forest.specs.Walks.{map_of, Mapping, mapping_of, page_way, key_at_page}
-use Rattle.forest.specs.Forest.{Forest, Sound, IsSpace, Rooted, NoPageOutside, EndsAt}
-use Rattle.forest.specs.Release.{Held}
+use Rattle.forest.specs.Forest.{Forest, Sound, IsSpace, Rooted, Held, NoPageOutside, EndsAt}
 use Rattle.forest.specs.Labels.{IsIn, is_in, different, and_label, labels, TellsAlike, page_number, shared_page, IsProcessPlace, is_process}
 use Rattle.forest.specs.Laws.{AlikeIsEquallyMany, TakenIsDifferent}
 use Rattle.forest.proofs.ExactLaws.{bit, count_same, count_changed}

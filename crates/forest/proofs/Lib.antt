@@ -9,3 +9,6 @@ pub mod ReleaseLaws
 pub mod ReachLaws
 pub mod LabelLaws
 pub mod MappedLaws
+pub mod HeldLaws
+pub mod WriteHeld
+pub mod CopyHeld

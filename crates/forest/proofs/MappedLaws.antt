@@ -26,14 +26,14 @@ count_none : (f : ℕ → Bool) → count_below f 0 ≡ 0
 unfolding count_below
 count_none f = refl
 
-count_blocks : (f : ℕ → Bool) (length k : ℕ) → count_below f (k * length) ≡ sum_below (λ top. count_below (λ r. f (top * length + r)) length) k
+pub count_blocks : (f : ℕ → Bool) (length k : ℕ) → count_below f (k * length) ≡ sum_below (λ top. count_below (λ r. f (top * length + r)) length) k
 unfolding sum_below
 count_blocks f length zero = let e : 0 * length ≡ 0 = omega arith in rw e (count_none f)
 count_blocks f length (suc k) =
     let e : suc k * length ≡ k * length + length = omega arith in
     rw e (count_append f (k * length) length ∙ ap (λ n. n + count_below (λ r. f (k * length + r)) length) (count_blocks f length k))
 
-sum_same : (f g : ℕ → ℕ) (n : ℕ) → ((k : ℕ) → k < n → f k ≡ g k) → sum_below f n ≡ sum_below g n
+pub sum_same : (f g : ℕ → ℕ) (n : ℕ) → ((k : ℕ) → k < n → f k ≡ g k) → sum_below f n ≡ sum_below g n
 unfolding sum_below
 sum_same f g zero h = refl
 sum_same f g (suc n) h =

@@ -7,8 +7,7 @@ use Rattle.kn_base.specs.declared.key.Key.TheVariants.{Null, Number, Page, Node,
 use Rattle.unix_model.specs.Tables.{at, with_at, count_below}
 use Rattle.forest.specs.Objects.{Object, PageObject, NodeObject, Owner, named, names}
 use Rattle.forest.specs.Walks.{place_of, key_below, key_along, space_key, IsWay, digits, page_way, Mapping, mapping_of, map_of, key_at_page}
-use Rattle.forest.specs.Forest.{Forest, Sound, Exact, IsSpace, IsRoot, Rooted, NobodyNames, FitsBelow, FitsUnder, key_height, EndsAt, in_hand, namings, NoPageOutside}
-use Rattle.forest.specs.Release.{Held}
+use Rattle.forest.specs.Forest.{Forest, Sound, Exact, IsSpace, IsRoot, Rooted, NobodyNames, FitsBelow, FitsUnder, key_height, EndsAt, in_hand, namings, Held, NoPageOutside}
 use Rattle.forest.specs.Labels.{page_number, shared_page}
 use Rattle.forest.specs.Laws.{EverythingIsReached, EveryPageIsMapped}
 use Rattle.forest.proofs.CountLaws.{names-true}

@@ -8,9 +8,9 @@ use Rattle.unix_model.specs.Tables.{at, with_at, count_below}
 use Rattle.unix_model.proofs.TableLaws.{at-with_at, at-with_at-other}
 use Rattle.forest.specs.Objects.{Object, PageObject, NodeObject, Owner, named, names, same_object, is_object, with_object}
 use Rattle.forest.specs.Walks.{place_of, key_below, key_along, space_key, IsWay, page_way, mapping_of, map_of, key_at_page}
-use Rattle.forest.specs.Forest.{Forest, Sound, Exact, IsSpace, NobodyNames, FitsBelow, FitsUnder, key_height, in_hand, namings}
+use Rattle.forest.specs.Forest.{Forest, Sound, Exact, IsSpace, NobodyNames, FitsBelow, FitsUnder, key_height, in_hand, namings, Held}
 use Rattle.forest.specs.Changes.{with_count, with_key, lowered, counted_less, with_given}
-use Rattle.forest.specs.Release.{ReleaseStep, nothing, shared, page, take_out, empty_node, Release, done, more, Held}
+use Rattle.forest.specs.Release.{ReleaseStep, nothing, shared, page, take_out, empty_node, Release, done, more}
 use Rattle.forest.specs.Laws.{ReleaseKeepsSpaces, ReleaseGivesUnnamed, ReleaseGoesDown}
 use Rattle.forest.proofs.CountLaws.{same_object-same, same_object-true, names-true, true-names, counted_one}
 use Rattle.forest.proofs.WalkLaws.{step}
@@ -37,22 +37,22 @@ none_or_some None h = absurd (h refl)
 none_or_some (Some x) h = refl
 
 -- the first key in hand is in hand
-front : (key : Key) (hand : List Key) (object : Object) → named key ≡ Some object → 1 ≤ in_hand (key ∷ hand) object
+pub front : (key : Key) (hand : List Key) (object : Object) → named key ≡ Some object → 1 ≤ in_hand (key ∷ hand) object
 front key hand object e =
     let held = in_hand-cons key hand object in
     let one : names object key ≡ true = true-names object key e in
     rw (held, one) (omega arith)
 
-front_owned : (forest : Forest) (outside : Object → ℕ) (key : Key) (hand : List Key) → Held forest outside (key ∷ hand) → (object : Object)
+pub front_owned : (forest : Forest) (outside : Object → ℕ) (key : Key) (hand : List Key) → Held forest outside (key ∷ hand) → (object : Object)
     → named key ≡ Some object → IsSome (forest.owner object)
 front_owned forest outside key hand held object e =
     none_or_some (forest.owner object) (λ none. let some = front key hand object e in let gone = held.gone object none in omega arith)
 
 -- what is known of an object in hand that is counted once
-record LastKey (forest : Forest) (outside : Object → ℕ) (hand : List Key) (object : Object) : Type 0 where
-  nobody : NobodyNames forest.keys object
-  none_outside : outside object ≡ 0
-  none_in_hand : in_hand hand object ≡ 0
+pub record LastKey (forest : Forest) (outside : Object → ℕ) (hand : List Key) (object : Object) : Type 0 where
+  pub nobody : NobodyNames forest.keys object
+  pub none_outside : outside object ≡ 0
+  pub none_in_hand : in_hand hand object ≡ 0
 
 pub unnamed : (forest : Forest) → Sound forest → (object : Object) → namings forest object ≡ 0 → NobodyNames forest.keys object
 unfolding namings
@@ -61,7 +61,7 @@ unnamed forest sound object none place h =
     (true-names object (at forest.keys place) h) in
     omega arith
 
-last_key : (forest : Forest) (outside : Object → ℕ) (key : Key) (hand : List Key) → Held forest outside (key ∷ hand) → (object : Object)
+pub last_key : (forest : Forest) (outside : Object → ℕ) (key : Key) (hand : List Key) → Held forest outside (key ∷ hand) → (object : Object)
     → named key ≡ Some object → forest.count object ≡ 1 → LastKey forest outside hand object
 last_key forest outside key hand held object e once =
     let counted = held.exact.counted object (front_owned forest outside key hand held object e) in
@@ -83,10 +83,10 @@ record StepKeeps (old new : Forest) (outside : Object → ℕ) (old_hand new_han
   lost : (object : Object) → IsSome (old.owner object) → new.owner object ≡ None → outside object ≡ 0
   never : (object : Object) → old.owner object ≡ None → new.owner object ≡ None
 
-tail_hand : (key : Key) (hand : List Key) (object : Object) → in_hand (key ∷ hand) object ≡ 0 → in_hand hand object ≡ 0
+pub tail_hand : (key : Key) (hand : List Key) (object : Object) → in_hand (key ∷ hand) object ≡ 0 → in_hand hand object ≡ 0
 tail_hand key hand object e = let cons = in_hand-cons key hand object in omega arith
 
-no_name : (key : Key) (hand : List Key) (object : Object) → names object key ≡ false → in_hand (key ∷ hand) object ≡ in_hand hand object
+pub no_name : (key : Key) (hand : List Key) (object : Object) → names object key ≡ false → in_hand (key ∷ hand) object ≡ in_hand hand object
 no_name key hand object e =
     let cons = in_hand-cons key hand object in
     let zero_more : bit (names object key) ≡ 0 = ap bit e in
@@ -99,6 +99,11 @@ tail_space forest key hand space is = record {
   not_in_hand = tail_hand key hand (NodeObject space) is.not_in_hand;
 }
 
+tail_apart : (forest : Forest) (outside : Object → ℕ) (key : Key) (hand : List Key) → Held forest outside (key ∷ hand) → (object : Object) → 1 ≤ outside object
+    → NobodyNames forest.keys object × (in_hand hand object ≡ 0)
+tail_apart forest outside key hand held object out =
+    let a = held.apart object out in (a.0, tail_hand key hand object a.1)
+
 nothing_keeps : (forest : Forest) (outside : Object → ℕ) (key : Key) (hand : List Key) → Held forest outside (key ∷ hand) → named key ≡ None
     → StepKeeps forest forest outside (key ∷ hand) hand
 nothing_keeps forest outside key hand held none = record {
@@ -110,6 +115,7 @@ nothing_keeps forest outside key hand held none = record {
     };
     alive = held.alive;
     gone = λ object none. tail_hand key hand object (held.gone object none);
+    apart = λ object out. tail_apart forest outside key hand held object out;
   };
   spaces = tail_space forest key hand;
   keys = λ space is way w. refl;
@@ -130,6 +136,7 @@ shared_keeps forest outside key hand object held e two = record {
         (λ (t : same_object other object ≡ false). rw t (held.alive other owned))
         (cases_Bool (same_object other object));
     gone = λ other none. tail_hand key hand other (held.gone other none);
+    apart = λ other out. tail_apart forest outside key hand held other out;
   };
   spaces = λ space is. record { owned = is.owned; unnamed = is.unnamed; not_in_hand = tail_hand key hand (NodeObject space) is.not_in_hand };
   keys = λ space is way w. refl;
@@ -151,7 +158,7 @@ same_count forest object other differs = ⊎_elim
     (λ (t : same_object other object ≡ false). rw t refl)
     (cases_Bool (same_object other object))
 
-is_or_not : (a b : Object) → (a ≡ b) ⊎ (a ≢ b)
+pub is_or_not : (a b : Object) → (a ≡ b) ⊎ (a ≢ b)
 is_or_not a b = ⊎_elim
     (λ (t : same_object a b ≡ true). inl (same_object-true a b t))
     (λ (t : same_object a b ≡ false). inr (λ (e : a ≡ b). absurd (let yes_same : true ≡ false = sym (same_object-same b) ∙ (rw e at t) in cc)))
@@ -209,6 +216,7 @@ given_keeps forest outside key hand object held e once empty =
             (λ (t : other ≡ object). ap (in_hand hand) t ∙ last.none_in_hand)
             (λ (t : other ≢ object). tail_hand key hand other (held.gone other (sym (same_owner forest object other t) ∙ none)))
             (is_or_not other object);
+        apart = λ other out. tail_apart forest outside key hand held other out;
       };
       spaces = λ space is. record {
         owned = ap is_some (same_owner forest object (NodeObject space) (λ t.
@@ -236,7 +244,7 @@ taken_named keys place p object h = ⊎_elim
     (λ (t : p ≢ place). ap named (sym (at-with_at-other keys place p Null t)) ∙ h)
     (cases_eq p place)
 
-fits_null : (upper : Key) → FitsBelow upper Null
+pub fits_null : (upper : Key) → FitsBelow upper Null
 fits_null (Segment node height) = tt
 fits_null _ = tt
 
@@ -298,6 +306,11 @@ take_out_keeps forest outside key hand node digit held e once below =
             no_name (at forest.keys (place_of node digit)) (key ∷ hand) object (not_named (at forest.keys (place_of node digit)) object
             (λ h. some_not_none (forest.owner object) (owned_object forest held.sound (place_of node digit) object h) none))
             ∙ held.gone object none;
+        apart = λ object out.
+            let a = held.apart object out in (
+              λ p h. a.0 p (taken_named forest.keys (place_of node digit) p object h),
+              no_name (at forest.keys (place_of node digit)) (key ∷ hand) object (not_named (at forest.keys (place_of node digit)) object (a.0 (place_of node digit))) ∙ a.1,
+            );
       };
       spaces = λ space is. record {
         owned = is.owned;

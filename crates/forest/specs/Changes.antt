@@ -1,11 +1,11 @@
 -- Changes of a forest: counts, owners and keys, one at a time, and what is made of them.
-use Rattle.std.specs.Prelude.{◌≡◌, ◌+◌, ◌-◌, ◌/◌, ◌%◌, ℕ, Bool, ◌==◌, if◌then◌else◌, Option, Some, None, List}
+use Rattle.std.specs.Prelude.{◌≡◌, ◌≢◌, ◌<◌, ◌+◌, ◌-◌, ◌/◌, ◌%◌, ℕ, Bool, ◌==◌, if◌then◌else◌, Option, Some, None, IsSome, List}
 use Rattle.kn_base.specs.declared.key.Key.{Key}
 use Rattle.kn_base.specs.declared.key.Key.TheVariants.{Null, Number, Page, Node, Segment, Start, Resume, Domain, Meter, Service}
 use Rattle.unix_model.specs.Tables.{at, with_at, count_below}
 use Rattle.forest.specs.Objects.{Object, PageObject, NodeObject, Owner, named, names, with_object}
 use Rattle.forest.specs.Walks.{place_of, key_below}
-use Rattle.forest.specs.Forest.{Forest, in_hand}
+use Rattle.forest.specs.Forest.{Forest, in_hand, IsSpace, FitsBelow, FitsUnder, key_height}
 
 -- the forest with another stored count of an object
 abbrev pub with_count : Forest → Object → ℕ → Forest
@@ -76,3 +76,17 @@ with_copy forest place fresh height owner = record forest {
   owner = with_object forest.owner (NodeObject fresh) (Some owner);
   count = with_object (copied_count forest place) (NodeObject fresh) 1;
 }
+
+-- A key may stand at a place of a node that belongs to a tree: its height fits the node's, whatever key stands for the node,
+-- and in a root it stands at one of the first eight places.
+pub record MayStand (forest : Forest) (hand : List Key) (place : ℕ) (key : Key) : Type 0 where
+  pub node_owned : IsSome (forest.owner (NodeObject (place / 16)))
+  pub low : key_height key < 5
+  pub fits : (upper : ℕ) → named (at forest.keys upper) ≡ Some (NodeObject (place / 16)) → FitsBelow (at forest.keys upper) key
+  pub not_itself : named key ≢ Some (NodeObject (place / 16))
+  pub root : IsSpace forest hand (place / 16) → (place % 16 < 8) × FitsUnder 5 key
+
+-- what hangs on a key belongs with a place: the same owner, and heights that fall
+pub record BelongsAt (forest : Forest) (place : ℕ) (key : Key) : Type 0 where
+  pub same_owner : (object : Object) → named key ≡ Some object → forest.owner object ≡ forest.owner (NodeObject (place / 16))
+  pub heights : (digit : ℕ) → digit < 16 → FitsBelow key (key_below forest.keys key digit)

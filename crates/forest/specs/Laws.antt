@@ -5,9 +5,9 @@ use Rattle.kn_base.specs.declared.key.Key.TheVariants.{Null, Number, Page, Node,
 use Rattle.unix_model.specs.Tables.{at, with_at, count_below, sum_below}
 use Rattle.forest.specs.Objects.{Object, PageObject, NodeObject, Owner, named}
 use Rattle.forest.specs.Walks.{key_along, key_below, space_key, IsWay, page_way, Mapping, mapping_of, map_of, place_of}
-use Rattle.forest.specs.Forest.{Forest, Exact, Sound, IsSpace, OwnWay, EndsAt, NobodyNames, in_hand, namings, node_way, nodes_to_take, FitsBelow, key_height, Rooted, NoPageOutside}
-use Rattle.forest.specs.Changes.{raised, lowered, with_key, with_taken, with_given, and_outside, filled, with_fresh, with_copy, IsFree}
-use Rattle.forest.specs.Release.{Held, Release}
+use Rattle.forest.specs.Forest.{Forest, Exact, Sound, IsSpace, OwnWay, EndsAt, NobodyNames, in_hand, namings, node_way, nodes_to_take, FitsBelow, FitsUnder, key_height, Rooted, Held, NoPageOutside}
+use Rattle.forest.specs.Changes.{raised, lowered, with_key, with_taken, with_given, and_outside, filled, with_fresh, with_copy, IsFree, MayStand, BelongsAt}
+use Rattle.forest.specs.Release.{Release}
 use Rattle.forest.specs.Labels.{IsIn, different, labels, TellsAlike, shared_page, IsProcessPlace, is_process}
 use Rattle.forest.specs.Mapped.{mapped, pages_below}
 
@@ -194,3 +194,53 @@ abbrev pub MappedIsSum : Type 0
 MappedIsSum =
     (keys : ℕ → Key) (space : ℕ)
     → mapped keys space ≡ sum_below (λ digit. pages_below keys (at keys (place_of space digit)) 4) 8
+
+-- All that holds of a forest goes on to hold while an object is taken, ..
+abbrev pub TakeKeepsHeld : Type 0
+TakeKeepsHeld =
+    (forest : Forest) (outside : Object → ℕ) (hand : List Key) (key : Key) (object : Object) (owner : Owner)
+    → Held forest outside hand → named key ≡ Some object → IsFree forest outside hand object
+    → ((node : ℕ) → NodeObject node ≡ object → node < forest.nodes)
+    → Held (with_taken forest object owner) outside (key ∷ hand)
+
+-- .. a count is raised, ..
+abbrev pub RaiseKeepsHeld : Type 0
+RaiseKeepsHeld =
+    (forest : Forest) (outside : Object → ℕ) (hand : List Key) (key : Key)
+    → Held forest outside hand → ((object : Object) → named key ≡ Some object → IsSome (forest.owner object) × (outside object ≡ 0))
+    → Held (raised forest key) outside (key ∷ hand)
+
+-- .. a key is written where it may stand, ..
+abbrev pub WriteKeepsHeld : Type 0
+WriteKeepsHeld =
+    (forest : Forest) (outside : Object → ℕ) (hand : List Key) (place : ℕ) (key : Key)
+    → Held forest outside (key ∷ hand) → Rooted forest (key ∷ hand) → MayStand forest (key ∷ hand) place key → BelongsAt forest place key
+    → Held (with_key forest place key) outside (at forest.keys place ∷ hand)
+    × Rooted (with_key forest place key) (at forest.keys place ∷ hand)
+
+-- .. a key in hand is handed out, ..
+abbrev pub HandOutKeepsHeld : Type 0
+HandOutKeepsHeld =
+    (forest : Forest) (outside : Object → ℕ) (hand : List Key) (key : Key) (object : Object)
+    → Held forest outside (key ∷ hand) → named key ≡ Some object → forest.count object ≡ 1
+    → Held forest (and_outside outside key) hand
+
+-- .. or back in hand, ..
+abbrev pub HandInKeepsHeld : Type 0
+HandInKeepsHeld =
+    (forest : Forest) (outside : Object → ℕ) (hand : List Key) (key : Key) (object : Object)
+    → Held forest (and_outside outside key) hand → named key ≡ Some object → outside object ≡ 0 → IsSome (forest.owner object)
+    → Held forest outside (key ∷ hand)
+
+-- .. and a node is copied, or put where none stood. Spaces stay spaces.
+abbrev pub CopyKeepsHeld : Type 0
+CopyKeepsHeld =
+    (forest : Forest) (outside : Object → ℕ) (hand : List Key) (place fresh height : ℕ) (owner : Owner)
+    → Held forest outside hand → Rooted forest hand
+    → IsFree forest outside hand (NodeObject fresh) → fresh < forest.nodes
+    → forest.owner (NodeObject (place / 16)) ≡ Some owner → MayStand forest hand place (Segment (record { 0 = fresh }) height)
+    → ((digit : ℕ) → digit < 16 → FitsUnder height (key_below forest.keys (at forest.keys place) digit))
+    → ((object : Object) → named (at forest.keys place) ≡ Some object → 2 ≤ forest.count object)
+    → Held (with_copy forest place fresh height owner) outside hand
+    × Rooted (with_copy forest place fresh height owner) hand
+    × ((space : ℕ) → IsSpace forest hand space ↔ IsSpace (with_copy forest place fresh height owner) hand space)

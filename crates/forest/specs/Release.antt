@@ -29,11 +29,3 @@ pub data Release : Forest → List Key → Forest → List Key → Type 0 where
   done : {forest : Forest} {hand : List Key} → Release forest hand forest hand
   more : {old next new : Forest} {old_hand next_hand new_hand : List Key}
       → ReleaseStep old old_hand next next_hand → Release next next_hand new new_hand → Release old old_hand new new_hand
-
--- What holds before and after each step: places are sound, counts are exact, whatever belongs to a tree is counted at
--- least once, and what belongs to none is not in hand.
-pub record Held (forest : Forest) (outside : Object → ℕ) (hand : List Key) : Type 0 where
-  pub sound : Sound forest
-  pub exact : Exact forest outside hand
-  pub alive : (object : Object) → IsSome (forest.owner object) → 1 ≤ forest.count object
-  pub gone : (object : Object) → forest.owner object ≡ None → in_hand hand object ≡ 0
