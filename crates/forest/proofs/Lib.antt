@@ -12,3 +12,4 @@ pub mod MappedLaws
 pub mod HeldLaws
 pub mod WriteHeld
 pub mod CopyHeld
+pub mod DescentLaws

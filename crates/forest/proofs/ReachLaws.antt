@@ -7,7 +7,7 @@ use Rattle.kn_base.specs.declared.key.Key.TheVariants.{Null, Number, Page, Node,
 use Rattle.unix_model.specs.Tables.{at, with_at, count_below}
 use Rattle.forest.specs.Objects.{Object, PageObject, NodeObject, Owner, named, names}
 use Rattle.forest.specs.Walks.{place_of, key_below, key_along, space_key, IsWay, digits, page_way, Mapping, mapping_of, map_of, key_at_page}
-use Rattle.forest.specs.Forest.{Forest, Sound, Exact, IsSpace, IsRoot, Rooted, NobodyNames, FitsBelow, FitsUnder, key_height, EndsAt, in_hand, namings, Held, NoPageOutside}
+use Rattle.forest.specs.Forest.{Forest, Sound, Exact, IsSpace, IsRoot, Rooted, NobodyNames, FitsBelow, FitsUnder, key_height, EndsAt, in_hand, namings, Held, top_digit, NoPageOutside}
 use Rattle.forest.specs.Labels.{page_number, shared_page}
 use Rattle.forest.specs.Laws.{EverythingIsReached, EveryPageIsMapped}
 use Rattle.forest.proofs.CountLaws.{names-true}
@@ -163,34 +163,28 @@ root_fits keys space digit object root below h = ⊎_elim
     (cases_lt digit 15))
     (cases_lt digit 8)
 
--- the last digit of a way, which is its first step
-abbrev pub top_digit : List ℕ → ℕ
-top_digit [] = 0
-top_digit (digit ∷ []) = digit
-top_digit (digit ∷ next ∷ way) = top_digit (next ∷ way)
-
 -- on a way of so many digits from a root, a key stands so many levels lower
-way_height : (forest : Forest) → Sound forest → Rooted forest [] → (space : ℕ) → IsSpace forest [] space → (way : List ℕ) → IsWay way
+pub way_height : (forest : Forest) (hand : List Key) → Sound forest → Rooted forest hand → (space : ℕ) → IsSpace forest hand space → (way : List ℕ) → IsWay way
     → (object : Object) → EndsAt forest.keys space way object → key_height (key_along forest.keys (space_key space) way) + length way ≡ 5
-way_height forest sound rooted space is_space [] w object ends = refl
-way_height forest sound rooted space is_space (digit ∷ []) w object ends =
+way_height forest hand sound rooted space is_space [] w object ends = refl
+way_height forest hand sound rooted space is_space (digit ∷ []) w object ends =
     fitted 5 (at forest.keys (place_of space digit)) object (root_fits forest.keys space digit object (rooted space is_space) w.0 ends).1 ends
-way_height forest sound rooted space is_space (digit ∷ next ∷ way) w object ends =
+way_height forest hand sound rooted space is_space (digit ∷ next ∷ way) w object ends =
     let s = step forest.keys (key_along forest.keys (space_key space) (next ∷ way)) digit object ends in
     let t = step forest.keys (key_along forest.keys (space_key space) way) next (NodeObject s.node) s.upper_names in
     let fits : FitsBelow (key_along forest.keys (space_key space) (next ∷ way)) (key_below forest.keys (key_along forest.keys (space_key space) (next ∷ way)) digit) =
     rw t.is (sound.heights (place_of t.node next) digit w.0) in
-    let above = way_height forest sound rooted space is_space (next ∷ way) w.1 (NodeObject s.node) s.upper_names in
+    let above = way_height forest hand sound rooted space is_space (next ∷ way) w.1 (NodeObject s.node) s.upper_names in
     let down = one_down forest.keys (key_along forest.keys (space_key space) (next ∷ way)) digit object fits ends in
     omega arith
 
 -- the first step is below 8
-way_top : (forest : Forest) → Rooted forest [] → (space : ℕ) → IsSpace forest [] space → (digit : ℕ) (way : List ℕ) → IsWay (digit ∷ way)
+pub way_top : (forest : Forest) (hand : List Key) → Rooted forest hand → (space : ℕ) → IsSpace forest hand space → (digit : ℕ) (way : List ℕ) → IsWay (digit ∷ way)
     → (object : Object) → EndsAt forest.keys space (digit ∷ way) object → top_digit (digit ∷ way) < 8
-way_top forest rooted space is_space digit [] w object ends = (root_fits forest.keys space digit object (rooted space is_space) w.0 ends).0
-way_top forest rooted space is_space digit (next ∷ way) w object ends =
+way_top forest hand rooted space is_space digit [] w object ends = (root_fits forest.keys space digit object (rooted space is_space) w.0 ends).0
+way_top forest hand rooted space is_space digit (next ∷ way) w object ends =
     let s = step forest.keys (key_along forest.keys (space_key space) (next ∷ way)) digit object ends in
-    way_top forest rooted space is_space next way w.1 (NodeObject s.node) s.upper_names
+    way_top forest hand rooted space is_space next way w.1 (NodeObject s.node) s.upper_names
 
 -- the number with these digits
 number_of : List ℕ → ℕ
@@ -235,19 +229,19 @@ pub map_inside : (keys : ℕ → Key) (space page : ℕ) → page < 2 ^ 19 → m
 unfolding map_of
 map_inside keys space page below = rw (lt-ltb page (2 ^ 19) below) refl
 
-nonempty_top : (forest : Forest) → Rooted forest [] → (space : ℕ) → IsSpace forest [] space → (way : List ℕ) → IsWay way → length way ≡ 5
+pub nonempty_top : (forest : Forest) (hand : List Key) → Rooted forest hand → (space : ℕ) → IsSpace forest hand space → (way : List ℕ) → IsWay way → length way ≡ 5
     → (object : Object) → EndsAt forest.keys space way object → top_digit way < 8
-nonempty_top forest rooted space is_space [] w five object ends = absurd (omega arith)
-nonempty_top forest rooted space is_space (digit ∷ way) w five object ends = way_top forest rooted space is_space digit way w object ends
+nonempty_top forest hand rooted space is_space [] w five object ends = absurd (omega arith)
+nonempty_top forest hand rooted space is_space (digit ∷ way) w five object ends = way_top forest hand rooted space is_space digit way w object ends
 
 pub every_page_is_mapped : EveryPageIsMapped
 every_page_is_mapped forest outside page held rooted none_outside owned =
     let r = reached forest outside (PageObject page) held none_outside owned in
     let k = page_key (key_along forest.keys (space_key r.space) r.way) page r.ends in
-    let height = way_height forest held.sound rooted r.space r.is_space r.way r.is_way (PageObject page) r.ends in
+    let height = way_height forest [] held.sound rooted r.space r.is_space r.way r.is_way (PageObject page) r.ends in
     let low = k.0 in
     let five : length r.way ≡ 5 = omega arith in
-    let top = nonempty_top forest rooted r.space r.is_space r.way r.is_way five (PageObject page) r.ends in
+    let top = nonempty_top forest [] rooted r.space r.is_space r.way r.is_way five (PageObject page) r.ends in
     let below = five_digits r.way r.is_way five top in (
       r.space,
       number_of r.way,

@@ -132,3 +132,9 @@ nodes_to_take forest space (digit ∷ way) =
 -- pages of trees are named by keys of trees alone
 abbrev pub NoPageOutside : Forest → (Object → ℕ) → Type 0
 NoPageOutside forest outside = (page : ℕ) → IsSome (forest.owner (PageObject page)) → outside (PageObject page) ≡ 0
+
+-- the first digit that a walk takes, which is the last one of its way
+abbrev pub top_digit : List ℕ → ℕ
+top_digit [] = 0
+top_digit (digit ∷ []) = digit
+top_digit (digit ∷ next ∷ way) = top_digit (next ∷ way)

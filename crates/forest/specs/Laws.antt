@@ -1,12 +1,13 @@
 -- The laws of shared trees, each as one statement.
-use Rattle.std.specs.Prelude.{◌≡◌, ◌≢◌, ◌<◌, ◌≤◌, ◌↔◌, ◌*◌, ◌/◌, ◌%◌, ◌^◌, ◌+◌, ℕ, Option, Some, None, IsSome, List, [], ◌∷◌}
+use Rattle.std.specs.Prelude.{◌≡◌, ◌≢◌, ◌<◌, ◌≤◌, ◌↔◌, ◌*◌, ◌/◌, ◌%◌, ◌^◌, ◌+◌, ℕ, Option, Some, None, IsSome, List, [], ◌∷◌, length}
 use Rattle.kn_base.specs.declared.key.Key.{Key}
 use Rattle.kn_base.specs.declared.key.Key.TheVariants.{Null, Number, Page, Node, Segment, Start, Resume, Domain, Meter, Service}
 use Rattle.unix_model.specs.Tables.{at, with_at, count_below, sum_below}
 use Rattle.forest.specs.Objects.{Object, PageObject, NodeObject, Owner, named}
 use Rattle.forest.specs.Walks.{key_along, key_below, space_key, IsWay, page_way, Mapping, mapping_of, map_of, place_of}
-use Rattle.forest.specs.Forest.{Forest, Exact, Sound, IsSpace, OwnWay, EndsAt, NobodyNames, in_hand, namings, node_way, nodes_to_take, FitsBelow, FitsUnder, key_height, Rooted, Held, NoPageOutside}
+use Rattle.forest.specs.Forest.{Forest, Exact, Sound, IsSpace, OwnWay, EndsAt, NobodyNames, in_hand, namings, node_way, nodes_to_take, FitsBelow, FitsUnder, key_height, Rooted, Held, NoPageOutside, top_digit}
 use Rattle.forest.specs.Changes.{raised, lowered, with_key, with_taken, with_given, and_outside, filled, with_fresh, with_copy, IsFree, MayStand, BelongsAt}
+use Rattle.forest.specs.Descent.{MadeOwn}
 use Rattle.forest.specs.Release.{Release}
 use Rattle.forest.specs.Labels.{IsIn, different, labels, TellsAlike, shared_page, IsProcessPlace, is_process}
 use Rattle.forest.specs.Mapped.{mapped, pages_below}
@@ -125,6 +126,22 @@ CopyMakesOwn =
     → IsWay way → digit < 16 → OwnWay forest space way → EndsAt forest.keys space way (NodeObject node)
     → OwnWay (with_copy forest (place_of node digit) fresh height owner) space (digit ∷ way)
     × EndsAt (with_copy forest (place_of node digit) fresh height owner).keys space (digit ∷ way) (NodeObject fresh)
+
+-- Down a way of at most four digits: it is made this space's own in all its nodes. All that holds of the forest goes on to
+-- hold, the spaces are the same and keep their maps, at most as many nodes are taken as the way has digits, and where the
+-- way was this space's own before, nothing changes.
+abbrev pub MakesWayOwn : Type 0
+MakesWayOwn =
+    (outside : Object → ℕ) (hand : List Key) (space : ℕ) (owner : Owner) (first last : Forest) (way : List ℕ) (taken : ℕ)
+    → Held first outside hand → Rooted first hand → IsSpace first hand space → first.owner (NodeObject space) ≡ Some owner
+    → IsWay way → length way ≤ 4 → top_digit way < 8
+    → MadeOwn outside hand space owner first way last taken
+    → Held last outside hand × Rooted last hand × OwnWay last space way
+    × ((node : ℕ) × EndsAt last.keys space way (NodeObject node))
+    × ((other : ℕ) → IsSpace first hand other ↔ IsSpace last hand other)
+    × ((other : ℕ) → IsSpace first hand other → map_of last.keys other ≡ map_of first.keys other)
+    × (taken ≤ length way)
+    × (OwnWay first space way → (taken ≡ 0) × (last ≡ first))
 
 -- At most four nodes are taken to make the way to a page this space's own, and none exactly where it is its own.
 abbrev pub FewNodesToTake : Type 0

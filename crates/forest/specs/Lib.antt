@@ -3,6 +3,7 @@ pub mod Objects
 pub mod Walks
 pub mod Forest
 pub mod Changes
+pub mod Descent
 pub mod Release
 pub mod Labels
 pub mod Mapped

@@ -6,6 +6,7 @@
 #![tactic(auto)]
 
 mod exact;
+mod held;
 mod maps;
 mod own;
 mod reach;
@@ -15,11 +16,15 @@ pub use exact::{
     give_is_exact, hand_in_is_exact, hand_out_is_exact, lower_is_exact, raise_is_exact,
     take_is_exact, write_is_exact,
 };
+pub use held::{
+    copy_keeps_held, hand_in_keeps_held, hand_out_keeps_held, raise_keeps_held, take_keeps_held,
+    write_keeps_held,
+};
 pub use maps::{
     detach_keeps_maps, fresh_keeps_maps, share_keeps_maps, unnamed_keeps_maps,
     write_changes_one_map,
 };
-pub use own::{copy_makes_own, few_nodes_to_take, own_is_alone, own_page_is_alone};
+pub use own::{copy_makes_own, few_nodes_to_take, makes_way_own, own_is_alone, own_page_is_alone};
 pub use reach::{
     alike_is_equally_many, every_page_is_mapped, everything_is_reached, mapped_is_sum,
     taken_is_different,

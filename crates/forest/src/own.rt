@@ -1,10 +1,17 @@
 //! What is counted once is reached once.
 
-ghost use Rattle.forest.specs.Laws.{CopyMakesOwn, FewNodesToTake, OwnIsAlone, OwnPageIsAlone};
+ghost use Rattle.forest.specs.Laws.{CopyMakesOwn, MakesWayOwn, FewNodesToTake, OwnIsAlone, OwnPageIsAlone};
 
 /// A node that is copied, or put where none stood, at the end of an own way makes the way own for one digit more.
 pub fn copy_makes_own()
     ensures { CopyMakesOwn }
+{}
+
+/// Down a way of at most four digits, with what is shared copied and what is missing put in: the way is this space
+/// own in all its nodes, all spaces keep their maps, at most as many nodes are taken as the way has digits, and
+/// nothing changes where the way was its own before.
+pub fn makes_way_own()
+    ensures { MakesWayOwn }
 {}
 
 /// At most four nodes are taken to make the way to a page own, and none exactly where it is own.
