@@ -8,7 +8,7 @@ use Rattle.unix_model.specs.Tables.{at, with_at, count_below, sum_below}
 use Rattle.unix_model.proofs.TableLaws.{at-with_at, at-with_at-other}
 use Rattle.forest.specs.Objects.{Object, PageObject, NodeObject, Owner, named, names, same_object, is_object, with_object}
 use Rattle.forest.specs.Walks.{place_of, key_below, key_along, space_key, IsWay}
-use Rattle.forest.specs.Forest.{Forest, Sound, Exact, IsSpace, IsRoot, Rooted, NobodyNames, FitsBelow, FitsUnder, key_height, in_hand, namings, Held}
+use Rattle.forest.specs.Forest.{Forest, Sound, Exact, IsSpace, IsRoot, Rooted, NobodyNames, FitsBelow, FitsUnder, key_height, in_hand, namings, Counted, Held}
 use Rattle.forest.specs.Changes.{with_count, with_key, raised, counted_more, with_taken, and_outside, filled, with_fresh, with_copy, copied_count, IsFree, MayStand, BelongsAt}
 use Rattle.forest.specs.Laws.{CopyKeepsHeld}
 use Rattle.forest.proofs.CountLaws.{same_object-same, same_object-true, names-true, true-names, counted_one}
@@ -18,10 +18,10 @@ use Rattle.forest.proofs.ExactLaws.{bit, not_named, in_hand-cons, raise, write, 
 use Rattle.forest.proofs.MapLaws.{node_key}
 use Rattle.forest.proofs.CopyLaws.{free_unnamed}
 use Rattle.forest.proofs.ReleaseLaws.{some_not_none, none_or_some, is_or_not, no_name, last_key, front, tail_hand, fits_null}
-use Rattle.forest.proofs.ExactLaws.{count_same, count_changed, namings-written}
+use Rattle.forest.proofs.ExactLaws.{count_same, count_changed, namings-written, spaces_back}
 use Rattle.forest.proofs.MapLaws.{at-filled, at-filled-other}
 use Rattle.forest.proofs.MappedLaws.{count_blocks, sum_same}
-use Rattle.forest.proofs.HeldLaws.{spaces_back, other_object}
+use Rattle.forest.proofs.HeldLaws.{other_object}
 
 sum_changed : (f g : ℕ → ℕ) (n p : ℕ) → p < n → ((q : ℕ) → q ≢ p → f q ≡ g q) → sum_below f n + g p ≡ sum_below g n + f p
 unfolding sum_below
@@ -69,7 +69,6 @@ namings-filled forest content node object within none =
 -- what is known where a node is copied
 record CopyHere (forest : Forest) (outside : Object → ℕ) (hand : List Key) (place fresh height : ℕ) (owner : Owner) : Type 0 where
   held : Held forest outside hand
-  rooted : Rooted forest hand
   free : IsFree forest outside hand (NodeObject fresh)
   within : fresh < forest.nodes
   node_owner : forest.owner (NodeObject (place / 16)) ≡ Some owner
@@ -332,7 +331,7 @@ module _ (forest : Forest) (outside : Object → ℕ) (hand : List Key) (place f
           none (place_of s.node (p % 16)) s.here
       go (elsewhere t u e) = none p (ap named (sym e) ∙ h)
 
-  held_now : Held (with_copy forest place fresh height owner) outside hand
+  held_now : Counted (with_copy forest place fresh height owner) outside hand
   held_now = record {
     sound = sound_now;
     exact = exact_now;
@@ -352,7 +351,7 @@ module _ (forest : Forest) (outside : Object → ℕ) (hand : List Key) (place f
   }
 
   space_was : (space : ℕ) → IsSpace (with_copy forest place fresh height owner) hand space → IsSpace forest hand space
-  space_was = spaces_back forest (with_copy forest place fresh height owner) outside hand hand c.held held_now
+  space_was = spaces_back forest (with_copy forest place fresh height owner) outside hand hand c.held.apart held_now.exact held_now.alive
       (λ object some out. ap is_some (sym (owner_at object (λ t. let none : outside object ≡ 0 = ap outside t ∙ c.free.none_outside in omega arith))) ∙ some)
 
   root_now : (space : ℕ) → IsSpace forest hand space → IsRoot (with_fresh forest.keys place fresh height) space
@@ -363,7 +362,7 @@ module _ (forest : Forest) (outside : Object → ℕ) (hand : List Key) (place f
   }
     where
       root : IsRoot forest.keys space
-      root = c.rooted space is
+      root = c.held.rooted space is
 
       apart : space ≢ fresh
       apart e = not_fresh (NodeObject space) is.owned (ap NodeObject e)
@@ -391,10 +390,9 @@ module _ (forest : Forest) (outside : Object → ℕ) (hand : List Key) (place f
       keeper_at (elsewhere t u e) = ap named e ∙ root.keeper
 
 pub copy_keeps_held : CopyKeepsHeld
-copy_keeps_held forest outside hand place fresh height owner held rooted free within node_owner may content spare =
+copy_keeps_held forest outside hand place fresh height owner held free within node_owner may content spare =
     let c : CopyHere forest outside hand place fresh height owner = record {
       held = held;
-      rooted = rooted;
       free = free;
       within = within;
       node_owner = node_owner;
@@ -402,7 +400,9 @@ copy_keeps_held forest outside hand place fresh height owner held rooted free wi
       content = content;
       spare = spare;
     } in (
-      held_now forest outside hand place fresh height owner c,
-      λ space is. root_now forest outside hand place fresh height owner c space (space_was forest outside hand place fresh height owner c space is),
+      record {
+        counts = held_now forest outside hand place fresh height owner c;
+        rooted = λ space is. root_now forest outside hand place fresh height owner c space (space_was forest outside hand place fresh height owner c space is);
+      },
       λ space. (space_now forest outside hand place fresh height owner c space, space_was forest outside hand place fresh height owner c space),
     )

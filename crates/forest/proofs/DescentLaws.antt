@@ -24,7 +24,6 @@ use Rattle.forest.proofs.CopyHeld.{copy_keeps_held}
 -- what is known at the end of an own way, one level above the next node
 pub record AtEnd (forest : Forest) (outside : Object → ℕ) (hand : List Key) (space : ℕ) (owner : Owner) (way : List ℕ) : Type 0 where
   pub held : Held forest outside hand
-  pub rooted : Rooted forest hand
   pub is_space : IsSpace forest hand space
   pub space_owner : forest.owner (NodeObject space) ≡ Some owner
   pub is_way : IsWay way
@@ -51,7 +50,7 @@ module _ (forest : Forest) (outside : Object → ℕ) (hand : List Key) (space :
     (node digit fresh : ℕ) (ends : EndsAt forest.keys space way (NodeObject node)) (below : digit < 16) (short : length way < 4)
     (top : top_digit (digit ∷ way) < 8) (free : IsFree forest outside hand (NodeObject fresh)) where
   the_height : key_height (key_along forest.keys (space_key space) way) + length way ≡ 5
-  the_height = way_height forest hand c.held.sound c.rooted space c.is_space way c.is_way (NodeObject node) ends
+  the_height = way_height forest hand c.held.sound c.held.rooted space c.is_space way c.is_way (NodeObject node) ends
 
   at_place : key_along forest.keys (space_key space) (digit ∷ way) ≡ at forest.keys (place_of node digit)
   at_place = (node_key forest.keys (key_along forest.keys (space_key space) way) node ends).below digit
@@ -103,7 +102,7 @@ module _ (forest : Forest) (outside : Object → ℕ) (hand : List Key) (space :
       go : (key : Key) → at forest.keys (place_of node digit) ≡ key → FitsUnder (4 - length way) (key_below forest.keys key d)
       go (Segment n height) e =
           let names_it : EndsAt forest.keys space (digit ∷ way) (NodeObject n.0) = ap named (at_place ∙ e) in
-          let high = way_height forest hand c.held.sound c.rooted space c.is_space (digit ∷ way) (below, c.is_way) (NodeObject n.0) names_it in
+          let high = way_height forest hand c.held.sound c.held.rooted space c.is_space (digit ∷ way) (below, c.is_way) (NodeObject n.0) names_it in
           let high_here : height + suc (length way) ≡ 5 = rw (at_place, e) at high in
           let same : height ≡ 4 - length way = omega arith in
           let fits = c.held.sound.heights (place_of node digit) d d_below in
@@ -123,7 +122,7 @@ module _ (forest : Forest) (outside : Object → ℕ) (hand : List Key) (space :
 
   end_fits : (w : List ℕ) → IsWay w → EndsAt forest.keys space w (NodeObject node) → top_digit (digit ∷ w) < 8
       → FitsBelow (key_along forest.keys (space_key space) w) (key_below forest.keys (key_along forest.keys (space_key space) w) digit)
-  end_fits [] is w_ends w_top = (c.rooted space c.is_space).parts digit w_top
+  end_fits [] is w_ends w_top = (c.held.rooted space c.is_space).parts digit w_top
   end_fits (d ∷ w) is w_ends w_top =
       let s = step forest.keys (key_along forest.keys (space_key space) w) d (NodeObject node) w_ends in
       rw s.is (c.held.sound.heights (place_of s.node d) digit below)
@@ -135,9 +134,8 @@ module _ (forest : Forest) (outside : Object → ℕ) (hand : List Key) (space :
 
   copy_held : fresh < forest.nodes → (CountedOnce forest (key_along forest.keys (space_key space) (digit ∷ way)) → ⊥)
       → Held (with_copy forest (place_of node digit) fresh (4 - length way) owner) outside hand
-      × Rooted (with_copy forest (place_of node digit) fresh (4 - length way) owner) hand
       × ((other : ℕ) → IsSpace forest hand other ↔ IsSpace (with_copy forest (place_of node digit) fresh (4 - length way) owner) hand other)
-  copy_held within shared = copy_keeps_held forest outside hand (place_of node digit) fresh (4 - length way) owner c.held c.rooted free within
+  copy_held within shared = copy_keeps_held forest outside hand (place_of node digit) fresh (4 - length way) owner c.held free within
       (ap (λ n. forest.owner (NodeObject n)) the_node ∙ way_owner forest c.held.sound space way c.is_way (NodeObject node) ends ∙ c.space_owner)
       may content (spare shared)
 
@@ -180,13 +178,12 @@ descend outside hand space owner (kept {first} {last} {way} {taken} digit above 
     let o = once last (key_along last.keys (space_key space) (digit ∷ way)) own_here in
     let e : AtEnd last outside hand space owner (digit ∷ way) = record {
       held = d.end.held;
-      rooted = d.end.rooted;
       is_space = d.end.is_space;
       space_owner = d.end.space_owner;
       is_way = is_way;
       own = (own_here, d.end.own);
     } in
-    let height = way_height last hand e.held.sound e.rooted space e.is_space (digit ∷ way) is_way o.object o.names_it in
+    let height = way_height last hand e.held.sound e.held.rooted space e.is_space (digit ∷ way) is_way o.object o.names_it in
     let n = node_named (key_along last.keys (space_key space) (digit ∷ way)) o.object o.names_it (omega arith) in
     let few = d.few in
     record {
@@ -209,8 +206,7 @@ descend outside hand space owner (copied {first} {last} {way} {taken} digit node
     record {
       end = record {
         held = held.0;
-        rooted = held.1;
-        is_space = (held.2 space).0 d.end.is_space;
+        is_space = (held.1 space).0 d.end.is_space;
         space_owner = other_object last.owner (NodeObject fresh) (Some owner) (NodeObject space)
             (λ t. some_not_none (last.owner (NodeObject space)) d.end.is_space.owned (ap last.owner t ∙ free.unowned)) ∙ d.end.space_owner;
         is_way = is_way;
@@ -218,7 +214,7 @@ descend outside hand space owner (copied {first} {last} {way} {taken} digit node
       };
       node = fresh;
       ends = own.1;
-      spaces = λ other. (λ is. (held.2 other).0 ((d.spaces other).0 is), λ is. (d.spaces other).1 ((held.2 other).1 is));
+      spaces = λ other. (λ is. (held.1 other).0 ((d.spaces other).0 is), λ is. (d.spaces other).1 ((held.1 other).1 is));
       maps = λ other is. maps other ((d.spaces other).0 is) ∙ d.maps other is;
       few = omega arith;
       unchanged = λ own_first.
@@ -227,7 +223,7 @@ descend outside hand space owner (copied {first} {last} {way} {taken} digit node
     }
 
 pub makes_way_own : MakesWayOwn
-makes_way_own outside hand space owner first last way taken held rooted is_space space_owner is_way short top made =
-    let d = descend outside hand space owner made (record { held = held; rooted = rooted; is_space = is_space; space_owner = space_owner; is_way = tt; own = tt })
+makes_way_own outside hand space owner first last way taken held is_space space_owner is_way short top made =
+    let d = descend outside hand space owner made (record { held = held; is_space = is_space; space_owner = space_owner; is_way = tt; own = tt })
     is_way short top in
-    (d.end.held, d.end.rooted, d.end.own, (d.node, d.ends), d.spaces, d.maps, d.few, d.unchanged)
+    (d.end.held, d.end.own, (d.node, d.ends), d.spaces, d.maps, d.few, d.unchanged)

@@ -182,3 +182,18 @@ hand_in forest outside hand key exact = record {
       let held = in_hand-cons key hand object in
       omega arith;
 }
+
+-- a space after a change was one before it
+pub spaces_back : (old new : Forest) (outside : Object → ℕ) (old_hand new_hand : List Key)
+    → ((object : Object) → 1 ≤ outside object → NobodyNames old.keys object × (in_hand old_hand object ≡ 0))
+    → Exact new outside new_hand → ((object : Object) → IsSome (new.owner object) → 1 ≤ new.count object)
+    → ((object : Object) → IsSome (new.owner object) → 1 ≤ outside object → IsSome (old.owner object))
+    → (space : ℕ) → IsSpace new new_hand space → IsSpace old old_hand space
+spaces_back old new outside old_hand new_hand apart exact alive owners space is =
+    let living = alive (NodeObject space) is.owned in
+    let counted = exact.counted (NodeObject space) is.owned in
+    let places = nobody_counted new (NodeObject space) is.unnamed in
+    let hand = is.not_in_hand in
+    let out : 1 ≤ outside (NodeObject space) = omega arith in
+    let parts = apart (NodeObject space) out in
+    record { owned = owners (NodeObject space) is.owned out; unnamed = parts.0; not_in_hand = parts.1 }

@@ -8,29 +8,16 @@ use Rattle.unix_model.specs.Tables.{at, with_at, count_below}
 use Rattle.unix_model.proofs.TableLaws.{at-with_at, at-with_at-other}
 use Rattle.forest.specs.Objects.{Object, PageObject, NodeObject, Owner, named, names, same_object, is_object, with_object}
 use Rattle.forest.specs.Walks.{place_of, key_below, key_along, space_key, IsWay}
-use Rattle.forest.specs.Forest.{Forest, Sound, Exact, IsSpace, IsRoot, Rooted, NobodyNames, FitsBelow, FitsUnder, key_height, in_hand, namings, Held}
+use Rattle.forest.specs.Forest.{Forest, Sound, Exact, IsSpace, IsRoot, Rooted, NobodyNames, FitsBelow, FitsUnder, key_height, in_hand, namings, Counted, Held}
 use Rattle.forest.specs.Changes.{with_count, with_key, raised, counted_more, with_taken, and_outside, filled, with_fresh, with_copy, copied_count, IsFree, MayStand, BelongsAt}
 use Rattle.forest.specs.Laws.{TakeKeepsHeld, RaiseKeepsHeld, WriteKeepsHeld, HandOutKeepsHeld, HandInKeepsHeld, CopyKeepsHeld}
 use Rattle.forest.proofs.CountLaws.{same_object-same, same_object-true, names-true, true-names, counted_one}
 use Rattle.forest.proofs.WalkLaws.{step}
 use Rattle.forest.proofs.OwnLaws.{owned_object, owned_node, place_within}
-use Rattle.forest.proofs.ExactLaws.{bit, not_named, in_hand-cons, raise, write, take, hand_out, hand_in, count-more, more-same, nobody_counted, with_object-here}
+use Rattle.forest.proofs.ExactLaws.{bit, not_named, in_hand-cons, raise, write, take, hand_out, hand_in, count-more, more-same, nobody_counted, with_object-here, spaces_back}
 use Rattle.forest.proofs.MapLaws.{node_key}
 use Rattle.forest.proofs.CopyLaws.{free_unnamed}
 use Rattle.forest.proofs.ReleaseLaws.{some_not_none, none_or_some, is_or_not, no_name, last_key, front, tail_hand}
-
--- a space after a change was one before it
-pub spaces_back : (old new : Forest) (outside : Object → ℕ) (old_hand new_hand : List Key) → Held old outside old_hand → Held new outside new_hand
-    → ((object : Object) → IsSome (new.owner object) → 1 ≤ outside object → IsSome (old.owner object))
-    → (space : ℕ) → IsSpace new new_hand space → IsSpace old old_hand space
-spaces_back old new outside old_hand new_hand held now owners space is =
-    let alive = now.alive (NodeObject space) is.owned in
-    let counted = now.exact.counted (NodeObject space) is.owned in
-    let places = nobody_counted new (NodeObject space) is.unnamed in
-    let hand = is.not_in_hand in
-    let out : 1 ≤ outside (NodeObject space) = omega arith in
-    let apart = held.apart (NodeObject space) out in
-    record { owned = owners (NodeObject space) is.owned out; unnamed = apart.0; not_in_hand = apart.1 }
 
 pub other_object : {X : Type 0} (table : Object → X) (object : Object) (x : X) (other : Object) → other ≢ object → with_object table object x other ≡ table other
 unfolding with_object
@@ -43,8 +30,11 @@ pub not_key : (key : Key) (object other : Object) → named key ≡ Some object 
 not_key key object other e differs = not_named key other (λ h.
     let same : Some other ≡ Some object = sym h ∙ e in differs (let is : other ≡ object = cc in is))
 
-pub take_keeps_held : TakeKeepsHeld
-take_keeps_held forest outside hand key object owner held e free within =
+take_counted : (forest : Forest) (outside : Object → ℕ) (hand : List Key) (key : Key) (object : Object) (owner : Owner)
+    → Counted forest outside hand → named key ≡ Some object → IsFree forest outside hand object
+    → ((node : ℕ) → NodeObject node ≡ object → node < forest.nodes)
+    → Counted (with_taken forest object owner) outside (key ∷ hand)
+take_counted forest outside hand key object owner held e free within =
     let nobody = free_unnamed forest held.sound object free.unowned in
     record {
       sound = record {
@@ -83,6 +73,16 @@ take_keeps_held forest outside hand key object owner held e free within =
           );
     }
 
+pub take_keeps_held : TakeKeepsHeld
+take_keeps_held forest outside hand key object owner held e free within =
+    let now = take_counted forest outside hand key object owner held.counts e free within in
+    record {
+      counts = now;
+      rooted = λ space is. held.rooted space (spaces_back forest (with_taken forest object owner) outside hand (key ∷ hand) held.apart now.exact now.alive
+          (λ other some out. ap is_some (sym (other_object forest.owner object (Some owner) other (λ t.
+          let none : outside other ≡ 0 = ap outside t ∙ free.none_outside in omega arith))) ∙ some) space is);
+    }
+
 -- a key that is in hand in addition
 more_hand : (key : Key) (hand : List Key) (object : Object) → (named key ≡ Some object → ⊥) → in_hand hand object ≡ 0 → in_hand (key ∷ hand) object ≡ 0
 more_hand key hand object differs none = no_name key hand object (not_named key object differs) ∙ none
@@ -99,8 +99,10 @@ more_nobody : (forest : Forest) (there : Option Object) (object : Object) → No
 more_nobody forest None object nobody = nobody
 more_nobody forest (Some other) object nobody = nobody
 
-pub raise_keeps_held : RaiseKeepsHeld
-raise_keeps_held forest outside hand key held owned =
+raise_counted : (forest : Forest) (outside : Object → ℕ) (hand : List Key) (key : Key) → Counted forest outside hand
+    → ((object : Object) → named key ≡ Some object → IsSome (forest.owner object) × (outside object ≡ 0))
+    → Counted (raised forest key) outside (key ∷ hand)
+raise_counted forest outside hand key held owned =
     record {
       sound = more_keys forest (named key) held.sound;
       exact = raise forest outside hand key held.exact;
@@ -116,9 +118,23 @@ raise_keeps_held forest outside hand key held owned =
           (more_nobody forest (named key) object a.0, more_hand key hand object (λ h. let none = (owned object h).1 in omega arith) a.1);
     }
 
-pub hand_out_keeps_held : HandOutKeepsHeld
+more_root : (forest : Forest) (there : Option Object) (space : ℕ) → IsRoot forest.keys space → IsRoot (counted_more forest there).keys space
+more_root forest None space root = root
+more_root forest (Some object) space root = root
+
+pub raise_keeps_held : RaiseKeepsHeld
+raise_keeps_held forest outside hand key held owned =
+    let now = raise_counted forest outside hand key held.counts owned in
+    record {
+      counts = now;
+      rooted = λ space is. more_root forest (named key) space (held.rooted space (spaces_back forest (raised forest key) outside hand (key ∷ hand) held.apart now.exact now.alive
+          (λ object some out. ap (λ o. is_some (o object)) (sym (more_owner forest (named key))) ∙ some) space is));
+    }
+
+hand_out_counted : (forest : Forest) (outside : Object → ℕ) (hand : List Key) (key : Key) (object : Object) → Counted forest outside (key ∷ hand)
+    → named key ≡ Some object → forest.count object ≡ 1 → Counted forest (and_outside outside key) hand
 unfolding and_outside
-hand_out_keeps_held forest outside hand key object held e once =
+hand_out_counted forest outside hand key object held e once =
     let last = last_key forest outside key hand held object e once in
     record {
       sound = held.sound;
@@ -134,9 +150,23 @@ hand_out_keeps_held forest outside hand key object held e once =
           (is_or_not other object);
     }
 
-pub hand_in_keeps_held : HandInKeepsHeld
+pub hand_out_keeps_held : HandOutKeepsHeld
+hand_out_keeps_held forest outside hand key object held e once root = record {
+  counts = hand_out_counted forest outside hand key object held.counts e once;
+  rooted = λ space is. ⊎_elim
+      (λ (t : NodeObject space ≡ object). root space t)
+      (λ (t : NodeObject space ≢ object). held.rooted space (record {
+        owned = is.owned;
+        unnamed = is.unnamed;
+        not_in_hand = no_name key hand (NodeObject space) (not_key key object (NodeObject space) e t) ∙ is.not_in_hand;
+      }))
+      (is_or_not (NodeObject space) object);
+}
+
+hand_in_counted : (forest : Forest) (outside : Object → ℕ) (hand : List Key) (key : Key) (object : Object) → Counted forest (and_outside outside key) hand
+    → named key ≡ Some object → outside object ≡ 0 → IsSome (forest.owner object) → Counted forest outside (key ∷ hand)
 unfolding and_outside
-hand_in_keeps_held forest outside hand key object held e none owned =
+hand_in_counted forest outside hand key object held e none owned =
     record {
       sound = held.sound;
       exact = hand_in forest outside hand key held.exact;
@@ -153,3 +183,13 @@ hand_in_keeps_held forest outside hand key object held e none owned =
                 let zero_out : outside other ≡ 0 = ap outside (let same : other ≡ object = cc in same) ∙ none in omega arith) a.1,
           );
     }
+
+pub hand_in_keeps_held : HandInKeepsHeld
+hand_in_keeps_held forest outside hand key object held e none owned = record {
+  counts = hand_in_counted forest outside hand key object held.counts e none owned;
+  rooted = λ space is. held.rooted space (record {
+    owned = is.owned;
+    unnamed = is.unnamed;
+    not_in_hand = tail_hand key hand (NodeObject space) is.not_in_hand;
+  });
+}

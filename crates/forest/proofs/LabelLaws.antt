@@ -157,7 +157,7 @@ place_owner forest sound place is page h =
     way_owner forest sound place.0 (page_way place.1) (way_of_page place.1) (PageObject page) names_it ∙ is.1
 
 pub taken_is_different : TakenIsDifferent
-taken_is_different forest outside pages places held rooted none_outside within listed =
+taken_is_different forest outside pages places held none_outside within listed =
     let found = λ (page : ℕ) (h : is_in page (labels (shared_page forest.keys) places) ≡ true).
     (let l = labelled (shared_page forest.keys) places page h in
     place_owner forest held.sound l.place ((listed l.place).0 l.within) page l.has) in
@@ -165,7 +165,7 @@ taken_is_different forest outside pages places held rooted none_outside within l
     (λ page less. same_bool (is_process (forest.owner (PageObject page))) (is_in page (labels (shared_page forest.keys) places))
     (λ h.
     let owner = is_process-true (forest.owner (PageObject page)) h in
-    let m = every_page_is_mapped forest outside page held rooted none_outside (ap is_some owner) in
+    let m = every_page_is_mapped forest outside page held none_outside (ap is_some owner) in
     has_label (shared_page forest.keys) places (m.0, m.1) page ((listed (m.0, m.1)).1 (m.2, m.3 ∙ owner, m.4)) m.5)
     (λ h. ap is_process (found page h)))
     ∙ count_in (labels (shared_page forest.keys) places) pages (λ page h. within page (ap is_some (found page h)))

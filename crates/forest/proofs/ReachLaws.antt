@@ -235,13 +235,13 @@ nonempty_top forest hand rooted space is_space [] w five object ends = absurd (o
 nonempty_top forest hand rooted space is_space (digit ∷ way) w five object ends = way_top forest hand rooted space is_space digit way w object ends
 
 pub every_page_is_mapped : EveryPageIsMapped
-every_page_is_mapped forest outside page held rooted none_outside owned =
+every_page_is_mapped forest outside page held none_outside owned =
     let r = reached forest outside (PageObject page) held none_outside owned in
     let k = page_key (key_along forest.keys (space_key r.space) r.way) page r.ends in
-    let height = way_height forest [] held.sound rooted r.space r.is_space r.way r.is_way (PageObject page) r.ends in
+    let height = way_height forest [] held.sound held.rooted r.space r.is_space r.way r.is_way (PageObject page) r.ends in
     let low = k.0 in
     let five : length r.way ≡ 5 = omega arith in
-    let top = nonempty_top forest [] rooted r.space r.is_space r.way r.is_way five (PageObject page) r.ends in
+    let top = nonempty_top forest [] held.rooted r.space r.is_space r.way r.is_way five (PageObject page) r.ends in
     let below = five_digits r.way r.is_way five top in (
       r.space,
       number_of r.way,

@@ -8,14 +8,14 @@ use Rattle.unix_model.specs.Tables.{at, with_at, count_below}
 use Rattle.unix_model.proofs.TableLaws.{at-with_at, at-with_at-other}
 use Rattle.forest.specs.Objects.{Object, PageObject, NodeObject, Owner, named, names, same_object, is_object, with_object}
 use Rattle.forest.specs.Walks.{place_of, key_below, key_along, space_key, IsWay, page_way, mapping_of, map_of, key_at_page}
-use Rattle.forest.specs.Forest.{Forest, Sound, Exact, IsSpace, NobodyNames, FitsBelow, FitsUnder, key_height, in_hand, namings, Held}
+use Rattle.forest.specs.Forest.{Forest, Sound, Exact, IsSpace, NobodyNames, FitsBelow, FitsUnder, key_height, in_hand, namings, IsRoot, Rooted, Counted, Held}
 use Rattle.forest.specs.Changes.{with_count, with_key, lowered, counted_less, with_given}
 use Rattle.forest.specs.Release.{ReleaseStep, nothing, shared, page, take_out, empty_node, Release, done, more}
 use Rattle.forest.specs.Laws.{ReleaseKeepsSpaces, ReleaseGivesUnnamed, ReleaseGoesDown}
 use Rattle.forest.proofs.CountLaws.{same_object-same, same_object-true, names-true, true-names, counted_one}
 use Rattle.forest.proofs.WalkLaws.{step}
 use Rattle.forest.proofs.OwnLaws.{owned_object, owned_node, place_within, way_of_page}
-use Rattle.forest.proofs.ExactLaws.{bit, not_named, in_hand-cons, lower, write, give, less-same, count-less, nobody_counted, with_object-here}
+use Rattle.forest.proofs.ExactLaws.{bit, not_named, in_hand-cons, lower, write, give, less-same, count-less, nobody_counted, with_object-here, spaces_back}
 use Rattle.forest.proofs.MapLaws.{same_map, stays_off, not_the_node}
 use Rattle.forest.proofs.OwnMaps.{below_write}
 
@@ -43,7 +43,7 @@ front key hand object e =
     let one : names object key ≡ true = true-names object key e in
     rw (held, one) (omega arith)
 
-pub front_owned : (forest : Forest) (outside : Object → ℕ) (key : Key) (hand : List Key) → Held forest outside (key ∷ hand) → (object : Object)
+pub front_owned : (forest : Forest) (outside : Object → ℕ) (key : Key) (hand : List Key) → Counted forest outside (key ∷ hand) → (object : Object)
     → named key ≡ Some object → IsSome (forest.owner object)
 front_owned forest outside key hand held object e =
     none_or_some (forest.owner object) (λ none. let some = front key hand object e in let gone = held.gone object none in omega arith)
@@ -61,7 +61,7 @@ unnamed forest sound object none place h =
     (true-names object (at forest.keys place) h) in
     omega arith
 
-pub last_key : (forest : Forest) (outside : Object → ℕ) (key : Key) (hand : List Key) → Held forest outside (key ∷ hand) → (object : Object)
+pub last_key : (forest : Forest) (outside : Object → ℕ) (key : Key) (hand : List Key) → Counted forest outside (key ∷ hand) → (object : Object)
     → named key ≡ Some object → forest.count object ≡ 1 → LastKey forest outside hand object
 last_key forest outside key hand held object e once =
     let counted = held.exact.counted object (front_owned forest outside key hand held object e) in
@@ -76,7 +76,7 @@ last_key forest outside key hand held object e once =
 
 -- what a step keeps
 record StepKeeps (old new : Forest) (outside : Object → ℕ) (old_hand new_hand : List Key) : Type 0 where
-  held : Held new outside new_hand
+  held : Counted new outside new_hand
   spaces : (space : ℕ) → IsSpace old old_hand space → IsSpace new new_hand space
   keys : (space : ℕ) → IsSpace old old_hand space → (way : List ℕ) → IsWay way
       → key_along new.keys (space_key space) way ≡ key_along old.keys (space_key space) way
@@ -99,12 +99,12 @@ tail_space forest key hand space is = record {
   not_in_hand = tail_hand key hand (NodeObject space) is.not_in_hand;
 }
 
-tail_apart : (forest : Forest) (outside : Object → ℕ) (key : Key) (hand : List Key) → Held forest outside (key ∷ hand) → (object : Object) → 1 ≤ outside object
+tail_apart : (forest : Forest) (outside : Object → ℕ) (key : Key) (hand : List Key) → Counted forest outside (key ∷ hand) → (object : Object) → 1 ≤ outside object
     → NobodyNames forest.keys object × (in_hand hand object ≡ 0)
 tail_apart forest outside key hand held object out =
     let a = held.apart object out in (a.0, tail_hand key hand object a.1)
 
-nothing_keeps : (forest : Forest) (outside : Object → ℕ) (key : Key) (hand : List Key) → Held forest outside (key ∷ hand) → named key ≡ None
+nothing_keeps : (forest : Forest) (outside : Object → ℕ) (key : Key) (hand : List Key) → Counted forest outside (key ∷ hand) → named key ≡ None
     → StepKeeps forest forest outside (key ∷ hand) hand
 nothing_keeps forest outside key hand held none = record {
   held = record {
@@ -123,7 +123,7 @@ nothing_keeps forest outside key hand held none = record {
   never = λ object none. none;
 }
 
-shared_keeps : (forest : Forest) (outside : Object → ℕ) (key : Key) (hand : List Key) (object : Object) → Held forest outside (key ∷ hand)
+shared_keeps : (forest : Forest) (outside : Object → ℕ) (key : Key) (hand : List Key) (object : Object) → Counted forest outside (key ∷ hand)
     → named key ≡ Some object → 2 ≤ forest.count object
     → StepKeeps forest (with_count forest object (forest.count object - 1)) outside (key ∷ hand) hand
 unfolding with_object
@@ -169,7 +169,7 @@ unfolding namings
 given_namings forest object other = refl
 
 -- an object in hand that is counted once is given back, where no key stands in it
-given_keeps : (forest : Forest) (outside : Object → ℕ) (key : Key) (hand : List Key) (object : Object) → Held forest outside (key ∷ hand)
+given_keeps : (forest : Forest) (outside : Object → ℕ) (key : Key) (hand : List Key) (object : Object) → Counted forest outside (key ∷ hand)
     → named key ≡ Some object → forest.count object ≡ 1
     → ((place : ℕ) → NodeObject (place / 16) ≡ object → at forest.keys place ≡ Null)
     → StepKeeps forest (with_given forest object) outside (key ∷ hand) hand
@@ -286,7 +286,7 @@ taken_along keys node digit below nobody space apart (d ∷ way) w =
     stays_off keys (NodeObject node) nobody (space_key space) (not_the_node space node apart) way (h ∙ ap (λ n. Some (NodeObject n)) is))
 
 -- a key that is taken out of a node in hand
-take_out_keeps : (forest : Forest) (outside : Object → ℕ) (key : Key) (hand : List Key) (node digit : ℕ) → Held forest outside (key ∷ hand)
+take_out_keeps : (forest : Forest) (outside : Object → ℕ) (key : Key) (hand : List Key) (node digit : ℕ) → Counted forest outside (key ∷ hand)
     → named key ≡ Some (NodeObject node) → forest.count (NodeObject node) ≡ 1 → digit < 16
     → StepKeeps forest (with_key forest (place_of node digit) Null) outside (key ∷ hand) (at forest.keys (place_of node digit) ∷ key ∷ hand)
 take_out_keeps forest outside key hand node digit held e once below =
@@ -327,11 +327,11 @@ take_out_keeps forest outside key hand node digit held e once below =
       never = λ object none. none;
     }
 
-step_keeps : (old new : Forest) (outside : Object → ℕ) (old_hand new_hand : List Key) → ReleaseStep old old_hand new new_hand → Held old outside old_hand
+step_keeps : (old new : Forest) (outside : Object → ℕ) (old_hand new_hand : List Key) → ReleaseStep old old_hand new new_hand → Counted old outside old_hand
     → StepKeeps old new outside old_hand new_hand
 step_keeps old new outside old_hand new_hand s held = go s held
   where
-    go : {f g : Forest} {h k : List Key} → ReleaseStep f h g k → Held f outside h → StepKeeps f g outside h k
+    go : {f g : Forest} {h k : List Key} → ReleaseStep f h g k → Counted f outside h → StepKeeps f g outside h k
     go (nothing {forest} {hand} key e) held = nothing_keeps forest outside key hand held e
     go (shared {forest} {hand} key object e two) held = shared_keeps forest outside key hand object held e two
     go (page {forest} {hand} key p e once) held = given_keeps forest outside key hand (PageObject p) held e once (λ place t. cc)
@@ -356,7 +356,7 @@ keeps_all old next new outside old_hand next_hand new_hand a b = record {
     lost_next object some none None e = a.lost object some e
     lost_next object some none (Some owner) e = b.lost object (ap is_some e) none
 
-release_keeps : (outside : Object → ℕ) {old new : Forest} {old_hand new_hand : List Key} → Release old old_hand new new_hand → Held old outside old_hand
+release_keeps : (outside : Object → ℕ) {old new : Forest} {old_hand new_hand : List Key} → Release old old_hand new new_hand → Counted old outside old_hand
     → StepKeeps old new outside old_hand new_hand
 release_keeps outside (done {forest} {hand}) held = record {
   held = held;
@@ -369,10 +369,25 @@ release_keeps outside (more {old} {next} {new} {old_hand} {next_hand} {new_hand}
     let a = step_keeps old next outside old_hand next_hand first held in
     keeps_all old next new outside old_hand next_hand new_hand a (release_keeps outside rest a.held)
 
+-- a root whose keys have stayed
+pub same_root : (old new : ℕ → Key) (space : ℕ) → ((digit : ℕ) → digit < 16 → at new (place_of space digit) ≡ at old (place_of space digit))
+    → IsRoot old space → IsRoot new space
+same_root old new space same root = record {
+  parts = λ digit small. rw (same digit (omega arith)) (root.parts digit small);
+  unused = λ digit large small. same digit (omega arith) ∙ root.unused digit large small;
+  keeper = ap named (same 15 (omega arith)) ∙ root.keeper;
+}
+
 pub release_keeps_spaces : ReleaseKeepsSpaces
 release_keeps_spaces old new outside old_hand new_hand held r =
-    let k = release_keeps outside r held in (
-      k.held,
+    let k = release_keeps outside r held.counts in (
+      record {
+        counts = k.held;
+        rooted = λ space is.
+            let was = spaces_back old new outside old_hand new_hand held.apart k.held.exact k.held.alive
+            (λ object some out. none_or_some (old.owner object) (λ none. some_not_none (new.owner object) some (k.never object none))) space is in
+            same_root old.keys new.keys space (λ digit below. k.keys space was (digit ∷ []) (below, tt)) (held.rooted space was);
+      },
       λ space is. (
         k.spaces space is,
         same_map old.keys new.keys space space (λ page below. ap mapping_of (k.keys space is (page_way page) (way_of_page page))),
@@ -381,7 +396,7 @@ release_keeps_spaces old new outside old_hand new_hand held r =
 
 pub release_gives_unnamed : ReleaseGivesUnnamed
 release_gives_unnamed old new outside old_hand new_hand held r object some =
-    let k = release_keeps outside r held in (
+    let k = release_keeps outside r held.counts in (
       λ now.
           let count = k.held.alive object now in
           let exact = k.held.exact.counted object now in

@@ -8,7 +8,7 @@ use Rattle.unix_model.specs.Tables.{at, with_at, count_below}
 use Rattle.unix_model.proofs.TableLaws.{at-with_at, at-with_at-other}
 use Rattle.forest.specs.Objects.{Object, PageObject, NodeObject, Owner, named, names, same_object, is_object, with_object}
 use Rattle.forest.specs.Walks.{place_of, key_below, key_along, space_key, IsWay}
-use Rattle.forest.specs.Forest.{Forest, Sound, Exact, IsSpace, IsRoot, Rooted, NobodyNames, FitsBelow, FitsUnder, key_height, in_hand, namings, Held}
+use Rattle.forest.specs.Forest.{Forest, Sound, Exact, IsSpace, IsRoot, Rooted, NobodyNames, FitsBelow, FitsUnder, key_height, in_hand, namings, Counted, Held}
 use Rattle.forest.specs.Changes.{with_count, with_key, raised, counted_more, with_taken, and_outside, filled, with_fresh, with_copy, copied_count, IsFree, MayStand, BelongsAt}
 use Rattle.forest.specs.Laws.{WriteKeepsHeld}
 use Rattle.forest.proofs.CountLaws.{same_object-same, same_object-true, names-true, true-names, counted_one}
@@ -18,7 +18,7 @@ use Rattle.forest.proofs.ExactLaws.{bit, not_named, in_hand-cons, raise, write, 
 use Rattle.forest.proofs.MapLaws.{node_key}
 use Rattle.forest.proofs.CopyLaws.{free_unnamed}
 use Rattle.forest.proofs.ReleaseLaws.{some_not_none, none_or_some, is_or_not, no_name, last_key, front, tail_hand, fits_null}
-use Rattle.forest.proofs.HeldLaws.{spaces_back}
+use Rattle.forest.proofs.ExactLaws.{spaces_back}
 
 -- what stands at a place after a key was written
 data Written (keys : ℕ → Key) (place : ℕ) (key : Key) (p : ℕ) : Type 0 where
@@ -71,10 +71,10 @@ write_sound forest hand place key sound may belongs = record {
     low_at p (here t e) = rw e may.low
     low_at p (elsewhere t e) = rw e (sound.low p)
 
-write_held : (forest : Forest) (outside : Object → ℕ) (hand : List Key) (place : ℕ) (key : Key)
-    → Held forest outside (key ∷ hand) → MayStand forest (key ∷ hand) place key → BelongsAt forest place key
-    → Held (with_key forest place key) outside (at forest.keys place ∷ hand)
-write_held forest outside hand place key held may belongs =
+write_counted : (forest : Forest) (outside : Object → ℕ) (hand : List Key) (place : ℕ) (key : Key)
+    → Counted forest outside (key ∷ hand) → MayStand forest (key ∷ hand) place key → BelongsAt forest place key
+    → Counted (with_key forest place key) outside (at forest.keys place ∷ hand)
+write_counted forest outside hand place key held may belongs =
     let inside = held.sound.within (place / 16) may.node_owned in
     record {
       sound = write_sound forest (key ∷ hand) place key held.sound may belongs;
@@ -118,10 +118,11 @@ written_root keys place key space root fits = record {
     keeper_at (elsewhere t e) = ap named e ∙ root.keeper
 
 pub write_keeps_held : WriteKeepsHeld
-write_keeps_held forest outside hand place key held rooted may belongs =
-    let now = write_held forest outside hand place key held may belongs in (
-      now,
-      λ space is.
-          let was = spaces_back forest (with_key forest place key) outside (key ∷ hand) (at forest.keys place ∷ hand) held now (λ object some out. some) space is in
-          written_root forest.keys place key space (rooted space was) (λ t. may.root (rw t was)),
-    )
+write_keeps_held forest outside hand place key held may belongs =
+    let now = write_counted forest outside hand place key held.counts may belongs in
+    record {
+      counts = now;
+      rooted = λ space is.
+          let was = spaces_back forest (with_key forest place key) outside (key ∷ hand) (at forest.keys place ∷ hand) held.apart now.exact now.alive (λ object some out. some) space is in
+          written_root forest.keys place key space (held.rooted space was) (λ t. may.root (rw t was));
+    }

@@ -82,14 +82,20 @@ pub record Sound (forest : Forest) : Type 0 where
 abbrev pub Rooted : Forest → List Key → Type 0
 Rooted forest hand = (space : ℕ) → IsSpace forest hand space → IsRoot forest.keys space
 
--- What holds of a forest before and after each change: places are sound, counts are exact, whatever belongs to a tree is
--- counted at least once, what belongs to none is not in hand, and what something outside names is named by nothing else.
-pub record Held (forest : Forest) (outside : Object → ℕ) (hand : List Key) : Type 0 where
+-- Places are sound, counts are exact, whatever belongs to a tree is counted at least once, what belongs to none is not in
+-- hand, and what something outside names is named by nothing else.
+pub record Counted (forest : Forest) (outside : Object → ℕ) (hand : List Key) : Type 0 where
   pub sound : Sound forest
   pub exact : Exact forest outside hand
   pub alive : (object : Object) → IsSome (forest.owner object) → 1 ≤ forest.count object
   pub gone : (object : Object) → forest.owner object ≡ None → in_hand hand object ≡ 0
   pub apart : (object : Object) → 1 ≤ outside object → NobodyNames forest.keys object × (in_hand hand object ≡ 0)
+
+-- what holds of a forest before and after each change: all is counted, and each space is as a root is
+pub record Held (forest : Forest) (outside : Object → ℕ) (hand : List Key) : Type 0 where
+  pub counts : Counted forest outside hand
+  pub open counts use *
+  pub rooted : Rooted forest hand
 
 -- no node below a root is empty
 abbrev pub NoneEmpty : (ℕ → Key) → Type 0

@@ -5,7 +5,7 @@ use Rattle.kn_base.specs.declared.key.Key.TheVariants.{Null, Number, Page, Node,
 use Rattle.unix_model.specs.Tables.{at, with_at, count_below, sum_below}
 use Rattle.forest.specs.Objects.{Object, PageObject, NodeObject, Owner, named}
 use Rattle.forest.specs.Walks.{key_along, key_below, space_key, IsWay, page_way, Mapping, mapping_of, map_of, place_of}
-use Rattle.forest.specs.Forest.{Forest, Exact, Sound, IsSpace, OwnWay, EndsAt, NobodyNames, in_hand, namings, node_way, nodes_to_take, FitsBelow, FitsUnder, key_height, Rooted, Held, NoPageOutside, top_digit}
+use Rattle.forest.specs.Forest.{Forest, Exact, Sound, IsSpace, OwnWay, EndsAt, NobodyNames, in_hand, namings, node_way, nodes_to_take, FitsBelow, FitsUnder, key_height, IsRoot, Held, NoPageOutside, top_digit}
 use Rattle.forest.specs.Changes.{raised, lowered, with_key, with_taken, with_given, and_outside, filled, with_fresh, with_copy, IsFree, MayStand, BelongsAt}
 use Rattle.forest.specs.Descent.{MadeOwn}
 use Rattle.forest.specs.Release.{Release}
@@ -133,10 +133,10 @@ CopyMakesOwn =
 abbrev pub MakesWayOwn : Type 0
 MakesWayOwn =
     (outside : Object → ℕ) (hand : List Key) (space : ℕ) (owner : Owner) (first last : Forest) (way : List ℕ) (taken : ℕ)
-    → Held first outside hand → Rooted first hand → IsSpace first hand space → first.owner (NodeObject space) ≡ Some owner
+    → Held first outside hand → IsSpace first hand space → first.owner (NodeObject space) ≡ Some owner
     → IsWay way → length way ≤ 4 → top_digit way < 8
     → MadeOwn outside hand space owner first way last taken
-    → Held last outside hand × Rooted last hand × OwnWay last space way
+    → Held last outside hand × OwnWay last space way
     × ((node : ℕ) × EndsAt last.keys space way (NodeObject node))
     × ((other : ℕ) → IsSpace first hand other ↔ IsSpace last hand other)
     × ((other : ℕ) → IsSpace first hand other → map_of last.keys other ≡ map_of first.keys other)
@@ -185,7 +185,7 @@ EverythingIsReached =
 abbrev pub EveryPageIsMapped : Type 0
 EveryPageIsMapped =
     (forest : Forest) (outside : Object → ℕ) (page : ℕ)
-    → Held forest outside [] → Rooted forest [] → NoPageOutside forest outside
+    → Held forest outside [] → NoPageOutside forest outside
     → IsSome (forest.owner (PageObject page))
     → (space : ℕ) × (number : ℕ) × IsSpace forest [] space × (forest.owner (NodeObject space) ≡ forest.owner (PageObject page))
     × (number < 2 ^ 19) × (shared_page forest.keys (space, number) ≡ Some page)
@@ -195,7 +195,7 @@ EveryPageIsMapped =
 abbrev pub TakenIsDifferent : Type 0
 TakenIsDifferent =
     (forest : Forest) (outside : Object → ℕ) (pages : ℕ) (places : List (ℕ × ℕ))
-    → Held forest outside [] → Rooted forest [] → NoPageOutside forest outside
+    → Held forest outside [] → NoPageOutside forest outside
     → ((page : ℕ) → IsSome (forest.owner (PageObject page)) → page < pages)
     → ((place : ℕ × ℕ) → IsIn place places ↔ IsProcessPlace forest place)
     → count_below (λ page. is_process (forest.owner (PageObject page))) pages ≡ different (labels (shared_page forest.keys) places)
@@ -231,15 +231,15 @@ RaiseKeepsHeld =
 abbrev pub WriteKeepsHeld : Type 0
 WriteKeepsHeld =
     (forest : Forest) (outside : Object → ℕ) (hand : List Key) (place : ℕ) (key : Key)
-    → Held forest outside (key ∷ hand) → Rooted forest (key ∷ hand) → MayStand forest (key ∷ hand) place key → BelongsAt forest place key
+    → Held forest outside (key ∷ hand) → MayStand forest (key ∷ hand) place key → BelongsAt forest place key
     → Held (with_key forest place key) outside (at forest.keys place ∷ hand)
-    × Rooted (with_key forest place key) (at forest.keys place ∷ hand)
 
 -- .. a key in hand is handed out, ..
 abbrev pub HandOutKeepsHeld : Type 0
 HandOutKeepsHeld =
     (forest : Forest) (outside : Object → ℕ) (hand : List Key) (key : Key) (object : Object)
     → Held forest outside (key ∷ hand) → named key ≡ Some object → forest.count object ≡ 1
+    → ((node : ℕ) → NodeObject node ≡ object → IsRoot forest.keys node)
     → Held forest (and_outside outside key) hand
 
 -- .. or back in hand, ..
@@ -253,11 +253,10 @@ HandInKeepsHeld =
 abbrev pub CopyKeepsHeld : Type 0
 CopyKeepsHeld =
     (forest : Forest) (outside : Object → ℕ) (hand : List Key) (place fresh height : ℕ) (owner : Owner)
-    → Held forest outside hand → Rooted forest hand
+    → Held forest outside hand
     → IsFree forest outside hand (NodeObject fresh) → fresh < forest.nodes
     → forest.owner (NodeObject (place / 16)) ≡ Some owner → MayStand forest hand place (Segment (record { 0 = fresh }) height)
     → ((digit : ℕ) → digit < 16 → FitsUnder height (key_below forest.keys (at forest.keys place) digit))
     → ((object : Object) → named (at forest.keys place) ≡ Some object → 2 ≤ forest.count object)
     → Held (with_copy forest place fresh height owner) outside hand
-    × Rooted (with_copy forest place fresh height owner) hand
     × ((space : ℕ) → IsSpace forest hand space ↔ IsSpace (with_copy forest place fresh height owner) hand space)
