@@ -13,3 +13,4 @@ pub mod HeldLaws
 pub mod WriteHeld
 pub mod CopyHeld
 pub mod DescentLaws
+pub mod MaskLaws

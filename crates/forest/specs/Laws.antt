@@ -3,14 +3,29 @@ use Rattle.std.specs.Prelude.{◌≡◌, ◌≢◌, ◌<◌, ◌≤◌, ◌↔�
 use Rattle.kn_base.specs.declared.key.Key.{Key}
 use Rattle.kn_base.specs.declared.key.Key.TheVariants.{Null, Number, Page, Node, Segment, Start, Resume, Domain, Meter, Service}
 use Rattle.unix_model.specs.Tables.{at, with_at, count_below, sum_below}
-use Rattle.forest.specs.Objects.{Object, PageObject, NodeObject, Owner, named}
+use Rattle.forest.specs.Objects.{Object, PageObject, NodeObject, Owner, named, with_object}
 use Rattle.forest.specs.Walks.{key_along, key_below, space_key, IsWay, page_way, Mapping, mapping_of, map_of, place_of}
-use Rattle.forest.specs.Forest.{Forest, Exact, Sound, IsSpace, OwnWay, EndsAt, NobodyNames, in_hand, namings, node_way, nodes_to_take, FitsBelow, FitsUnder, key_height, IsRoot, Held, NoPageOutside, top_digit}
+use Rattle.forest.specs.Forest.{Forest, Exact, Sound, IsSpace, OwnWay, EndsAt, NobodyNames, in_hand, namings, node_way, nodes_to_take, FitsBelow, FitsUnder, key_height, IsRoot, masked, Held, NoPageOutside, top_digit}
 use Rattle.forest.specs.Changes.{raised, lowered, with_key, with_taken, with_given, and_outside, filled, with_fresh, with_copy, IsFree, MayStand, BelongsAt}
 use Rattle.forest.specs.Descent.{MadeOwn}
 use Rattle.forest.specs.Release.{Release}
 use Rattle.forest.specs.Labels.{IsIn, different, labels, TellsAlike, shared_page, IsProcessPlace, is_process}
 use Rattle.forest.specs.Mapped.{mapped, pages_below}
+
+-- Keys of nodes that belong to no tree are masked out of a forest: writing one leaves the forest as it is, and writing
+-- another one writes it there.
+abbrev pub MaskedWrites : Type 0
+MaskedWrites =
+    (owner : Object → Option Owner) (keys : ℕ → Key) (place : ℕ) (key : Key)
+    → (owner (NodeObject (place / 16)) ≡ None → masked owner (with_at keys place key) ≡ masked owner keys)
+    × (IsSome (owner (NodeObject (place / 16))) → masked owner (with_at keys place key) ≡ with_at (masked owner keys) place key)
+
+-- Nor does it matter whether a node without keys belongs to a tree, or a page.
+abbrev pub MaskedOwners : Type 0
+MaskedOwners =
+    (owner : Object → Option Owner) (keys : ℕ → Key) (object : Object) (now : Option Owner)
+    → ((place : ℕ) → NodeObject (place / 16) ≡ object → at keys place ≡ Null)
+    → masked (with_object owner object now) keys ≡ masked owner keys
 
 -- What a space reaches on a way of objects that are counted once is reached by no other space, and by this space on no
 -- other way.

@@ -21,8 +21,8 @@ pub use held::{
     write_keeps_held,
 };
 pub use maps::{
-    detach_keeps_maps, fresh_keeps_maps, share_keeps_maps, unnamed_keeps_maps,
-    write_changes_one_map,
+    detach_keeps_maps, fresh_keeps_maps, masked_owners, masked_writes, share_keeps_maps,
+    unnamed_keeps_maps, write_changes_one_map,
 };
 pub use own::{copy_makes_own, few_nodes_to_take, makes_way_own, own_is_alone, own_page_is_alone};
 pub use reach::{

@@ -1,6 +1,16 @@
 //! Changes that leave the maps of spaces as they are.
 
-ghost use Rattle.forest.specs.Laws.{FreshKeepsMaps, DetachKeepsMaps, ShareKeepsMaps, WriteChangesOneMap, UnnamedKeepsMaps};
+ghost use Rattle.forest.specs.Laws.{MaskedWrites, MaskedOwners, FreshKeepsMaps, DetachKeepsMaps, ShareKeepsMaps, WriteChangesOneMap, UnnamedKeepsMaps};
+
+/// Writing a key of a node that belongs to no tree leaves the forest as it is.
+pub fn masked_writes()
+    ensures { MaskedWrites }
+{}
+
+/// A node without keys may belong to a tree or not: the keys of the forest are the same.
+pub fn masked_owners()
+    ensures { MaskedOwners }
+{}
 
 /// A fresh node is put in the place of a shared node that it copies, or in an empty place: every other space keeps
 /// its map.

@@ -7,9 +7,9 @@ pub fn copy_makes_own()
     ensures { CopyMakesOwn }
 {}
 
-/// Down a way of at most four digits, with what is shared copied and what is missing put in: the way is this space
-/// own in all its nodes, all spaces keep their maps, at most as many nodes are taken as the way has digits, and
-/// nothing changes where the way was its own before.
+/// Down a way of at most four digits, with what is shared copied and what is missing put in: the way is the own way
+/// of the space in all its nodes, all spaces keep their maps, at most as many nodes are taken as the way has digits,
+/// and nothing changes where the way was its own before.
 pub fn makes_way_own()
     ensures { MakesWayOwn }
 {}
