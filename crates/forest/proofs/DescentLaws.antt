@@ -1,5 +1,5 @@
 -- Down a way from a root, level by level.
-use Rattle.std.proofs.Common.{◌≡◌, ◌≢◌, ◌<◌, ◌≤◌, ◌+◌, ◌-◌, ◌*◌, ◌/◌, ◌%◌, ◌^◌, ℕ, zero, suc, Bool, true, false, Option, Some, None, List, [], ◌∷◌, length, refl, ap, sym, ◌∙◌, arith, if◌then◌else◌, ⊎_elim, ◌⊎◌, inl, inr, ◌↔◌}
+use Rattle.std.proofs.Common.{◌≡◌, ◌≢◌, ◌<◌, ◌≤◌, ◌+◌, ◌-◌, ◌*◌, ◌/◌, ◌%◌, ◌^◌, ℕ, zero, suc, Bool, true, false, Option, Some, None, List, [], ◌∷◌, length, refl, ap, sym, ◌∙◌, arith, if◌then◌else◌, ⊎_elim, ◌⊎◌, inl, inr, ◌↔◌, ◌==◌}
 use Rattle.std.specs.Option.{is_some, IsSome}
 use Rattle.std.proofs.Math.Path.{subst}
 use Rattle.std.proofs.lemmas.Bool.{cases_eq, cases_lt}
@@ -8,13 +8,14 @@ use Rattle.kn_base.specs.declared.key.Key.TheVariants.{Null, Number, Page, Node,
 use Rattle.unix_model.specs.Tables.{at}
 use Rattle.forest.specs.Objects.{Object, PageObject, NodeObject, Owner, named}
 use Rattle.forest.specs.Walks.{place_of, key_below, key_along, space_key, IsWay, mapping_of, map_of}
-use Rattle.forest.specs.Forest.{Forest, Sound, IsSpace, Rooted, NobodyNames, OwnWay, CountedOnce, EndsAt, FitsBelow, FitsUnder, key_height, Held, top_digit}
+use Rattle.forest.specs.Forest.{Forest, Sound, IsSpace, Rooted, NobodyNames, OwnWay, CountedOnce, EndsAt, FitsBelow, FitsUnder, key_height, Held, top_digit, node_way}
 use Rattle.forest.specs.Changes.{with_copy, with_fresh, IsFree, MayStand}
 use Rattle.forest.specs.Descent.{MadeOwn, root, kept, copied}
-use Rattle.forest.specs.Laws.{MakesWayOwn}
+use Rattle.forest.specs.Laws.{MakesWayOwn, PageMayStand}
 use Rattle.forest.proofs.WalkLaws.{step}
 use Rattle.forest.proofs.OwnLaws.{alone_way}
-use Rattle.forest.proofs.MapLaws.{node_key, fresh_keeps_maps}
+use Rattle.forest.proofs.MapLaws.{node_key, fresh_keeps_maps, page_no_node}
+use Rattle.forest.proofs.OwnMaps.{way_of_node, length-node_way}
 use Rattle.forest.proofs.CopyLaws.{free_unnamed, end_owned, counted_once, once, copy_makes_own}
 use Rattle.forest.proofs.ReleaseLaws.{some_not_none}
 use Rattle.forest.proofs.ReachLaws.{way_height, way_owner}
@@ -46,6 +47,16 @@ fits_no_page : (upper key : Key) → 2 ≤ key_height upper → FitsBelow upper 
 fits_no_page (Segment n h) key high fits = under_no_page h key high fits
 fits_no_page _ key high fits = absurd (omega arith)
 
+-- whichever key names the node, it stands at the end of the own way
+upper_is : (forest : Forest) (outside : Object → ℕ) (hand : List Key) (space node : ℕ) → Held forest outside hand → IsSpace forest hand space
+    → (way : List ℕ) → OwnWay forest space way → EndsAt forest.keys space way (NodeObject node)
+    → (upper : ℕ) → named (at forest.keys upper) ≡ Some (NodeObject node) → at forest.keys upper ≡ key_along forest.keys (space_key space) way
+upper_is forest outside hand space node held is_space [] own ends upper h = absurd (is_space.unnamed upper (h ∙ sym ends))
+upper_is forest outside hand space node held is_space (digit ∷ way) own ends upper h =
+    let s = step forest.keys (key_along forest.keys (space_key space) way) digit (NodeObject node) ends in
+    let alone = (alone_way forest outside hand held.sound held.exact space (digit ∷ way) own).0 (NodeObject node) ends in
+    ap (at forest.keys) (alone upper (place_of s.node digit) h s.here) ∙ sym s.is
+
 module _ (forest : Forest) (outside : Object → ℕ) (hand : List Key) (space : ℕ) (owner : Owner) (way : List ℕ) (c : AtEnd forest outside hand space owner way)
     (node digit fresh : ℕ) (ends : EndsAt forest.keys space way (NodeObject node)) (below : digit < 16) (short : length way < 4)
     (top : top_digit (digit ∷ way) < 8) (free : IsFree forest outside hand (NodeObject fresh)) where
@@ -57,15 +68,6 @@ module _ (forest : Forest) (outside : Object → ℕ) (hand : List Key) (space :
 
   the_node : place_of node digit / 16 ≡ node
   the_node = omega arith
-
-  -- whichever key names the node, it stands at the end of the way
-  upper_is : (w : List ℕ) → IsWay w → OwnWay forest space w → EndsAt forest.keys space w (NodeObject node) → (upper : ℕ)
-      → named (at forest.keys upper) ≡ Some (NodeObject node) → at forest.keys upper ≡ key_along forest.keys (space_key space) w
-  upper_is [] is own w_ends upper h = absurd (c.is_space.unnamed upper (h ∙ sym w_ends))
-  upper_is (d ∷ w) is own w_ends upper h =
-      let s = step forest.keys (key_along forest.keys (space_key space) w) d (NodeObject node) w_ends in
-      let alone = (alone_way forest outside hand c.held.sound c.held.exact space (d ∷ w) own).0 (NodeObject node) w_ends in
-      ap (at forest.keys) (alone upper (place_of s.node d) h s.here) ∙ sym s.is
 
   node_is_owned : IsSome (forest.owner (NodeObject node))
   node_is_owned = end_owned forest hand c.held.sound space c.is_space way (NodeObject node) ends
@@ -85,7 +87,7 @@ module _ (forest : Forest) (outside : Object → ℕ) (hand : List Key) (space :
     node_owned = rw the_node node_is_owned;
     low = omega arith;
     fits = λ upper h.
-        let is = upper_is way c.is_way c.own ends upper (h ∙ ap (λ n. Some (NodeObject n)) the_node) in
+        let is = upper_is forest outside hand space node c.held c.is_space way c.own ends upper (h ∙ ap (λ n. Some (NodeObject n)) the_node) in
         let high = the_height in
         rw is (fits_segment (key_along forest.keys (space_key space) way) fresh (4 - length way) (omega arith) (omega arith));
     not_itself = λ h. node_not_fresh (let same : Some (NodeObject fresh) ≡ Some (NodeObject node) = h ∙ ap (λ n. Some (NodeObject n)) the_node in
@@ -227,3 +229,39 @@ makes_way_own outside hand space owner first last way taken held is_space space_
     let d = descend outside hand space owner made (record { held = held; is_space = is_space; space_owner = space_owner; is_way = tt; own = tt })
     is_way short top in
     (d.end.held, d.end.own, (d.node, d.ends), d.spaces, d.maps, d.few, d.unchanged)
+
+leaf_low : (key : Key) → FitsUnder 1 key → key_height key < 5
+leaf_low (Segment node height) fits = let next = fits.1 in omega arith
+leaf_low _ fits = omega arith
+
+leaf_names_page : (key : Key) (node : ℕ) → FitsUnder 1 key → named key ≢ Some (NodeObject node)
+leaf_names_page (Segment n height) node fits h = let next = fits.1 in let positive = fits.0 in absurd (omega arith)
+leaf_names_page (Page p w) node fits h = page_no_node p.0 node (p.0 == 0) h
+leaf_names_page _ node fits h = cc
+
+leaf_fits : (upper key : Key) → key_height upper ≡ 1 → FitsUnder 1 key → FitsBelow upper key
+leaf_fits (Segment n height) key low fits = rw low fits
+leaf_fits _ key low fits = tt
+
+-- a node that a way leads to is no space
+not_space : (forest : Forest) (hand : List Key) (space node : ℕ) (way : List ℕ) → 0 < length way → EndsAt forest.keys space way (NodeObject node)
+    → IsSpace forest hand node → ⊥
+not_space forest hand space node [] long ends is = omega arith
+not_space forest hand space node (digit ∷ way) long ends is =
+    let s = step forest.keys (key_along forest.keys (space_key space) way) digit (NodeObject node) ends in
+    is.unnamed (place_of s.node digit) s.here
+
+pub page_may_stand : PageMayStand
+page_may_stand forest outside hand space page node key held is_space own ends fits =
+    let split : place_of node (page % 16) / 16 ≡ node = omega arith in
+    let height = way_height forest hand held.sound held.rooted space is_space (node_way page) (way_of_node page) (NodeObject node) ends in
+    let four = length-node_way page in
+    record {
+      node_owned = rw split (end_owned forest hand held.sound space is_space (node_way page) (NodeObject node) ends);
+      low = leaf_low key fits;
+      fits = λ upper h.
+          rw (upper_is forest outside hand space node held is_space (node_way page) own ends upper (h ∙ ap (λ n. Some (NodeObject n)) split))
+          (leaf_fits (key_along forest.keys (space_key space) (node_way page)) key (omega arith) fits);
+      not_itself = leaf_names_page key (place_of node (page % 16) / 16) fits;
+      root = λ is. absurd (not_space forest hand space node (node_way page) (omega arith) ends (rw split at is));
+    }

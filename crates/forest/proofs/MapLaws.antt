@@ -131,7 +131,7 @@ pub record IsNodeKey (keys : ℕ → Key) (key : Key) (node : ℕ) : Type 0 wher
   pub no_page : mapping_of key ≡ None
   pub below : (digit : ℕ) → key_below keys key digit ≡ at keys (place_of node digit)
 
-page_no_node : (page : ℕ) (node : ℕ) (none : Bool) → (if none then None else Some (PageObject page)) ≡ Some (NodeObject node) → ⊥
+pub page_no_node : (page : ℕ) (node : ℕ) (none : Bool) → (if none then None else Some (PageObject page)) ≡ Some (NodeObject node) → ⊥
 page_no_node page node true h = cc
 page_no_node page node false h = cc
 

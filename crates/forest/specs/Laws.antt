@@ -275,3 +275,11 @@ CopyKeepsHeld =
     → ((object : Object) → named (at forest.keys place) ≡ Some object → 2 ≤ forest.count object)
     → Held (with_copy forest place fresh height owner) outside hand
     × ((space : ℕ) → IsSpace forest hand space ↔ IsSpace (with_copy forest place fresh height owner) hand space)
+
+-- At the end of an own way to a page, a page's key may stand, or none.
+abbrev pub PageMayStand : Type 0
+PageMayStand =
+    (forest : Forest) (outside : Object → ℕ) (hand : List Key) (space page node : ℕ) (key : Key)
+    → Held forest outside hand → IsSpace forest hand space
+    → OwnWay forest space (node_way page) → EndsAt forest.keys space (node_way page) (NodeObject node)
+    → FitsUnder 1 key → MayStand forest hand (place_of node (page % 16)) key

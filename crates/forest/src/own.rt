@@ -1,6 +1,6 @@
 //! What is counted once is reached once.
 
-ghost use Rattle.forest.specs.Laws.{CopyMakesOwn, MakesWayOwn, FewNodesToTake, OwnIsAlone, OwnPageIsAlone};
+ghost use Rattle.forest.specs.Laws.{CopyMakesOwn, MakesWayOwn, PageMayStand, FewNodesToTake, OwnIsAlone, OwnPageIsAlone};
 
 /// A node that is copied, or put where none stood, at the end of an own way makes the way own for one digit more.
 pub fn copy_makes_own()
@@ -12,6 +12,11 @@ pub fn copy_makes_own()
 /// and nothing changes where the way was its own before.
 pub fn makes_way_own()
     ensures { MakesWayOwn }
+{}
+
+/// At the end of an own way to a page the key of a page may stand, or none.
+pub fn page_may_stand()
+    ensures { PageMayStand }
 {}
 
 /// At most four nodes are taken to make the way to a page own, and none exactly where it is own.
