@@ -14,3 +14,4 @@ pub mod WriteHeld
 pub mod CopyHeld
 pub mod DescentLaws
 pub mod MaskLaws
+pub mod ExampleLaws

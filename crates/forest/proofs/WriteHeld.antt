@@ -97,7 +97,7 @@ write_counted forest outside hand place key held may belongs =
     nobody_at object nobody none p h (elsewhere t e) = nobody p (ap named (sym e) ∙ h)
 
 -- a root stays one
-written_root : (keys : ℕ → Key) (place : ℕ) (key : Key) (space : ℕ) → IsRoot keys space
+pub written_root : (keys : ℕ → Key) (place : ℕ) (key : Key) (space : ℕ) → IsRoot keys space
     → (place / 16 ≡ space → (place % 16 < 8) × FitsUnder 5 key) → IsRoot (with_at keys place key) space
 written_root keys place key space root fits = record {
   parts = λ digit small. parts_at digit small (written keys place key (place_of space digit));

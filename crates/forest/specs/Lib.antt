@@ -7,4 +7,5 @@ pub mod Descent
 pub mod Release
 pub mod Labels
 pub mod Mapped
+pub mod Example
 pub mod Laws
