@@ -1,5 +1,5 @@
 -- How many different labels there are.
-use Rattle.std.proofs.Common.{◌≡◌, ◌≢◌, ◌<◌, ◌≤◌, ◌+◌, ◌-◌, ◌*◌, ◌/◌, ◌%◌, ◌^◌, ℕ, zero, suc, Bool, true, false, Option, Some, None, List, [], ◌∷◌, length, refl, ap, sym, ◌∙◌, arith, if◌then◌else◌, ⊎_elim, nat_lt, ◌==◌, ◌⊎◌, inl, inr, ◌||◌, ◌↔◌}
+use Rattle.std.proofs.Common.{◌≡◌, ◌≢◌, ◌<◌, ◌≤◌, ◌+◌, ◌-◌, ◌*◌, ◌/◌, ◌%◌, ◌^◌, ℕ, zero, suc, Bool, true, false, Option, Some, None, List, [], ◌∷◌, ◌++◌, length, refl, ap, sym, ◌∙◌, arith, if◌then◌else◌, ⊎_elim, nat_lt, ◌==◌, ◌⊎◌, inl, inr, ◌||◌, ◌↔◌}
 use Rattle.std.specs.Option.{is_some, IsSome, IsSomeAnd}
 use Rattle.std.proofs.lemmas.Bool.{cases_Bool, cases_eq, cases_lt, lt-ltb, eq-eqb, ne_eqb, eqb-true, eqb-false, or_cases, or_left, or_right, or_from}
 use Rattle.kn_base.specs.declared.key.Key.{Key}
@@ -7,7 +7,7 @@ use Rattle.unix_model.specs.Tables.{at, count_below}
 use Rattle.forest.specs.Objects.{Object, PageObject, NodeObject, Owner, OfProcess, OfFile, named}
 use Rattle.forest.specs.Walks.{map_of, Mapping, mapping_of, page_way, key_at_page}
 use Rattle.forest.specs.Forest.{Forest, Sound, IsSpace, Rooted, Held, NoPageOutside, EndsAt}
-use Rattle.forest.specs.Labels.{IsIn, is_in, different, and_label, labels, TellsAlike, page_number, shared_page, IsProcessPlace, is_process}
+use Rattle.forest.specs.Labels.{IsIn, is_in, different, and_label, labels, TellsAlike, page_number, shared_page, IsProcessSpace, places_below, places_of, is_process}
 use Rattle.forest.specs.Laws.{AlikeIsEquallyMany, TakenIsDifferent}
 use Rattle.forest.proofs.ExactLaws.{bit, count_same, count_changed}
 use Rattle.forest.proofs.OwnLaws.{found_at, mapped_named, way_of_page}
@@ -146,6 +146,10 @@ found_page (Some found) page h = ⊎_elim
     record { found = found; is = refl; number = number; there_is = λ z. eqb-false found.page 0 t (number ∙ z) })
     (cases_Bool (found.page == 0))
 
+-- a page number of a process's space
+abbrev IsProcessPlace : Forest → ℕ × ℕ → Type 0
+IsProcessPlace forest place = IsSpace forest [] place.0 × (forest.owner (NodeObject place.0) ≡ Some OfProcess) × (place.1 < 2 ^ 19)
+
 -- a page that is found in a process's space belongs to processes
 place_owner : (forest : Forest) → Sound forest → (place : ℕ × ℕ) → IsProcessPlace forest place → (page : ℕ) → shared_page forest.keys place ≡ Some page
     → forest.owner (PageObject page) ≡ Some OfProcess
@@ -156,8 +160,12 @@ place_owner forest sound place is page h =
     mapped_named (key_at_page forest.keys place.0 place.1) f.found at_page.maps (λ z. f.there_is (sym f.number ∙ z)) ∙ ap (λ n. Some (PageObject n)) f.number in
     way_owner forest sound place.0 (page_way place.1) (way_of_page place.1) (PageObject page) names_it ∙ is.1
 
-pub taken_is_different : TakenIsDifferent
-taken_is_different forest outside pages places held none_outside within listed =
+taken_at : (forest : Forest) (outside : Object → ℕ) (pages : ℕ) (places : List (ℕ × ℕ))
+    → Held forest outside [] → NoPageOutside forest outside
+    → ((page : ℕ) → IsSome (forest.owner (PageObject page)) → page < pages)
+    → ((place : ℕ × ℕ) → IsIn place places ↔ IsProcessPlace forest place)
+    → count_below (λ page. is_process (forest.owner (PageObject page))) pages ≡ different (labels (shared_page forest.keys) places)
+taken_at forest outside pages places held none_outside within listed =
     let found = λ (page : ℕ) (h : is_in page (labels (shared_page forest.keys) places) ≡ true).
     (let l = labelled (shared_page forest.keys) places page h in
     place_owner forest held.sound l.place ((listed l.place).0 l.within) page l.has) in
@@ -169,3 +177,57 @@ taken_is_different forest outside pages places held none_outside within listed =
     has_label (shared_page forest.keys) places (m.0, m.1) page ((listed (m.0, m.1)).1 (m.2, m.3 ∙ owner, m.4)) m.5)
     (λ h. ap is_process (found page h)))
     ∙ count_in (labels (shared_page forest.keys) places) pages (λ page h. within page (ap is_some (found page h)))
+
+in_append : {X : Type 0} (x : X) (xs ys : List X) → IsIn x (xs ++ ys) → IsIn x xs ⊎ IsIn x ys
+in_append x [] ys h = inr h
+in_append x (y ∷ xs) ys h = ⊎_elim
+    (λ (t : x ≡ y). inl (inl t))
+    (λ (t : IsIn x (xs ++ ys)). ⊎_elim (λ (u : IsIn x xs). inl (inr u)) (λ (u : IsIn x ys). inr u) (in_append x xs ys t))
+    h
+
+append_in : {X : Type 0} (x : X) (xs ys : List X) → IsIn x xs ⊎ IsIn x ys → IsIn x (xs ++ ys)
+append_in x [] ys h = ⊎_elim (λ (t : ⊥). absurd t) (λ (t : IsIn x ys). t) h
+append_in x (y ∷ xs) ys h = ⊎_elim
+    (λ (t : IsIn x (y ∷ xs)). ⊎_elim (λ (u : x ≡ y). inl u) (λ (u : IsIn x xs). inr (append_in x xs ys (inl u))) t)
+    (λ (t : IsIn x ys). inr (append_in x xs ys (inr t)))
+    h
+
+in_below : (space limit : ℕ) (place : ℕ × ℕ) → IsIn place (places_below space limit) → (place.0 ≡ space) × (place.1 < limit)
+unfolding places_below
+in_below space zero place h = absurd h
+in_below space (suc limit) place h = ⊎_elim
+    (λ (t : place ≡ (space, limit)). (ap (λ p. p.0) t, (let e : place.1 ≡ limit = ap (λ p. p.1) t in omega arith)))
+    (λ (t : IsIn place (places_below space limit)). let r = in_below space limit place t in (r.0, (let less = r.1 in omega arith)))
+    h
+
+below_in : (space limit page : ℕ) → page < limit → IsIn (space, page) (places_below space limit)
+unfolding places_below
+below_in space zero page h = absurd (omega arith)
+below_in space (suc limit) page h = ⊎_elim
+    (λ (t : page < limit). inr (below_in space limit page t))
+    (λ (t : limit ≤ page). inl (ap (λ p. (space, p)) (let e : page ≡ limit = omega arith in e)))
+    (cases_lt page limit)
+
+in_places : (spaces : List ℕ) (place : ℕ × ℕ) → IsIn place (places_of spaces) → IsIn place.0 spaces × (place.1 < 2 ^ 19)
+unfolding places_of
+in_places [] place h = absurd h
+in_places (space ∷ spaces) place h = ⊎_elim
+    (λ (t : IsIn place (places_below space (2 ^ 19))). let r = in_below space (2 ^ 19) place t in (inl r.0, r.1))
+    (λ (t : IsIn place (places_of spaces)). let r = in_places spaces place t in (inr r.0, r.1))
+    (in_append place (places_below space (2 ^ 19)) (places_of spaces) h)
+
+places_in : (spaces : List ℕ) (space page : ℕ) → IsIn space spaces → page < 2 ^ 19 → IsIn (space, page) (places_of spaces)
+unfolding places_of
+places_in [] space page h below = absurd h
+places_in (first ∷ spaces) space page h below = append_in (space, page) (places_below first (2 ^ 19)) (places_of spaces) (⊎_elim
+    (λ (t : space ≡ first). inl (rw t (below_in first (2 ^ 19) page below)))
+    (λ (t : IsIn space spaces). inr (places_in spaces space page t below))
+    h)
+
+pub taken_is_different : TakenIsDifferent
+taken_is_different forest outside pages spaces held none_outside within listed =
+    taken_at forest outside pages (places_of spaces) held none_outside within
+    (λ place. (
+      λ h. let r = in_places spaces place h in let is = (listed place.0).0 r.0 in (is.0, is.1, r.1),
+      λ is. places_in spaces place.0 place.1 ((listed place.0).1 (is.0, is.1)) is.2,
+    ))

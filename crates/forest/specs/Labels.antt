@@ -1,5 +1,5 @@
 -- How many different things are found at places.
-use Rattle.std.specs.Prelude.{◌≡◌, ◌<◌, ◌^◌, ◌+◌, ◌↔◌, ℕ, Bool, true, false, ◌||◌, ◌==◌, if◌then◌else◌, Option, Some, None, List, [], ◌∷◌, ⊤, ◌⊎◌}
+use Rattle.std.specs.Prelude.{◌≡◌, ◌<◌, ◌^◌, ◌+◌, ◌↔◌, ℕ, zero, suc, ◌++◌, Bool, true, false, ◌||◌, ◌==◌, if◌then◌else◌, Option, Some, None, List, [], ◌∷◌, ⊤, ◌⊎◌}
 use Rattle.kn_base.specs.declared.key.Key.{Key}
 use Rattle.forest.specs.Objects.{Object, PageObject, NodeObject, Owner, OfProcess, OfFile}
 use Rattle.forest.specs.Walks.{Mapping, map_of}
@@ -44,10 +44,19 @@ page_number (Some found) = if found.page == 0 then None else Some found.page
 abbrev pub shared_page : (ℕ → Key) → ℕ × ℕ → Option ℕ
 shared_page keys place = page_number (map_of keys place.0 place.1)
 
--- the process's space and page number of a place are those of a process
-abbrev pub IsProcessPlace : Forest → ℕ × ℕ → Type 0
-IsProcessPlace forest place =
-    IsSpace forest [] place.0 × (forest.owner (NodeObject place.0) ≡ Some OfProcess) × (place.1 < 2 ^ 19)
+-- a node is the root of a process's space
+abbrev pub IsProcessSpace : Forest → ℕ → Type 0
+IsProcessSpace forest space = IsSpace forest [] space × (forest.owner (NodeObject space) ≡ Some OfProcess)
+
+-- a space with each of its page numbers below a limit
+unfoldable pub places_below : ℕ → ℕ → List (ℕ × ℕ)
+places_below space zero = []
+places_below space (suc page) = (space, page) ∷ places_below space page
+
+-- all page numbers of several spaces
+unfoldable pub places_of : List ℕ → List (ℕ × ℕ)
+places_of [] = []
+places_of (space ∷ spaces) = places_below space (2 ^ 19) ++ places_of spaces
 
 -- whether a page is taken as memory of a process
 abbrev pub is_process : Option Owner → Bool

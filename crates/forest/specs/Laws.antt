@@ -9,7 +9,7 @@ use Rattle.forest.specs.Forest.{Forest, Exact, Sound, IsSpace, OwnWay, EndsAt, N
 use Rattle.forest.specs.Changes.{raised, lowered, with_key, with_taken, with_given, and_outside, filled, with_fresh, with_copy, IsFree, MayStand, BelongsAt}
 use Rattle.forest.specs.Descent.{MadeOwn}
 use Rattle.forest.specs.Release.{Release}
-use Rattle.forest.specs.Labels.{IsIn, different, labels, TellsAlike, shared_page, IsProcessPlace, is_process}
+use Rattle.forest.specs.Labels.{IsIn, different, labels, TellsAlike, shared_page, IsProcessSpace, places_of, is_process}
 use Rattle.forest.specs.Mapped.{mapped, pages_below}
 
 -- Keys of nodes that belong to no tree are masked out of a forest: writing one leaves the forest as it is, and writing
@@ -209,11 +209,11 @@ EveryPageIsMapped =
 -- the processes' spaces.
 abbrev pub TakenIsDifferent : Type 0
 TakenIsDifferent =
-    (forest : Forest) (outside : Object → ℕ) (pages : ℕ) (places : List (ℕ × ℕ))
+    (forest : Forest) (outside : Object → ℕ) (pages : ℕ) (spaces : List ℕ)
     → Held forest outside [] → NoPageOutside forest outside
     → ((page : ℕ) → IsSome (forest.owner (PageObject page)) → page < pages)
-    → ((place : ℕ × ℕ) → IsIn place places ↔ IsProcessPlace forest place)
-    → count_below (λ page. is_process (forest.owner (PageObject page))) pages ≡ different (labels (shared_page forest.keys) places)
+    → ((space : ℕ) → IsIn space spaces ↔ IsProcessSpace forest space)
+    → count_below (λ page. is_process (forest.owner (PageObject page))) pages ≡ different (labels (shared_page forest.keys) (places_of spaces))
 
 -- Two ways of labelling that tell the same places apart have equally many labels.
 abbrev pub AlikeIsEquallyMany : Type 0
