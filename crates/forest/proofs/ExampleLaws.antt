@@ -63,7 +63,7 @@ way_made =
     (λ h. h) refl (record { unowned = refl; none_outside = refl; none_in_hand = refl }) (omega arith)
 
 -- a node that something outside names is a space
-space_of : (forest : Forest) (outside : Object → ℕ) (hand : List Key) (space : ℕ) → Held forest outside hand
+pub space_of : (forest : Forest) (outside : Object → ℕ) (hand : List Key) (space : ℕ) → Held forest outside hand
     → IsSome (forest.owner (NodeObject space)) → 1 ≤ outside (NodeObject space) → IsSpace forest hand space
 space_of forest outside hand space held owned out =
     let apart = held.apart (NodeObject space) out in

@@ -15,3 +15,4 @@ pub mod CopyHeld
 pub mod DescentLaws
 pub mod MaskLaws
 pub mod ExampleLaws
+pub mod ExampleShows

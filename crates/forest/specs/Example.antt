@@ -1,12 +1,14 @@
 -- A small forest that meets the premises of the laws: two spaces that share a subtree, with a page that both map, and a
 -- page and a blank that the first one maps alone. It is made from nothing, step by step, as the kernel would.
-use Rattle.std.specs.Prelude.{◌≡◌, ◌+◌, ℕ, Bool, true, false, Option, Some, None, List, [], ◌∷◌}
+use Rattle.std.specs.Prelude.{◌≡◌, ◌≤◌, ◌+◌, ℕ, Bool, true, false, Option, Some, None, List, [], ◌∷◌}
 use Rattle.kn_base.specs.declared.key.Key.{Key}
 use Rattle.kn_base.specs.declared.key.Key.TheVariants.{Null, Page, Segment}
+use Rattle.unix_model.specs.Tables.{with_at}
 use Rattle.forest.specs.Objects.{Object, PageObject, NodeObject, Owner, OfProcess}
-use Rattle.forest.specs.Walks.{space_key, page_way, Mapping, map_of}
-use Rattle.forest.specs.Forest.{Forest, Held, IsSpace, OwnWay}
-use Rattle.forest.specs.Changes.{raised, with_key, with_taken, with_copy, and_outside}
+use Rattle.forest.specs.Walks.{space_key, key_below, page_way, Mapping, map_of}
+use Rattle.forest.specs.Forest.{Forest, Held, IsSpace, OwnWay, namings, in_hand}
+use Rattle.forest.specs.Changes.{raised, with_count, with_key, with_taken, with_given, with_copy, filled, and_outside}
+use Rattle.forest.specs.Labels.{different, labels, shared_page, places_of}
 
 -- sixteen nodes, of which none belongs to a tree
 unfoldable pub nothing_yet : Forest
@@ -99,3 +101,33 @@ pub record ExampleHolds : Type 0 where
   pub shared_second : map_of example.keys 6 65536 ≡ Some (record { writable = true; page = 7 })
   pub unmapped : map_of example.keys 6 0 ≡ None
   pub counted_twice : example.count (NodeObject 2) ≡ 2
+
+-- the second space is released: its one key is taken out, its child is counted once less, and its root is given back
+unfoldable pub key_out : Forest
+key_out = with_key example 97 Null
+
+unfoldable pub child_lowered : Forest
+child_lowered = with_count key_out (NodeObject 2) 1
+
+unfoldable pub dropped : Forest
+dropped = with_given child_lowered (NodeObject 6)
+
+-- what the laws say of the example
+pub record ExampleShows : Type 0 where
+  -- page 11 is mapped by the first space at page number 0 alone
+  pub alone : (other page : ℕ) (found : Mapping) → IsSpace example [] other → map_of example.keys other page ≡ Some found → found.page ≡ 11
+      → (other ≡ 1) × (page ≡ 0)
+  -- it is taken away, and nothing else
+  pub taken_away : map_of (with_at example.keys 160 Null) 1 ≡ with_at (map_of example.keys 1) 0 None
+  pub other_stays : map_of (with_at example.keys 160 Null) 6 ≡ map_of example.keys 6
+  -- node 10, before page 11 was mapped, could be detached again
+  pub detached : map_of (with_at way_10.keys 144 Null) 1 ≡ map_of way_10.keys 1
+  -- node 12 as one more root
+  pub third_root : map_of (filled example.keys 12 (key_below example.keys (space_key 1))) 12 ≡ map_of example.keys 1
+  -- the second space goes, and the first one keeps its map, with what they shared
+  pub held_dropped : Held dropped one_outside []
+  pub first_stays : map_of dropped.keys 1 ≡ map_of example.keys 1
+  pub root_given : dropped.owner (NodeObject 6) ≡ None
+  pub child_named : 1 ≤ namings dropped (NodeObject 2) + one_outside (NodeObject 2) + in_hand [] (NodeObject 2)
+  -- two pages are taken
+  pub two_pages : different (labels (shared_page example.keys) (places_of (1 ∷ 6 ∷ []))) ≡ 2

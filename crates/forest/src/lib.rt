@@ -17,7 +17,7 @@ pub use exact::{
     give_is_exact, hand_in_is_exact, hand_out_is_exact, lower_is_exact, raise_is_exact,
     take_is_exact, write_is_exact,
 };
-pub use example::example_holds;
+pub use example::{example_holds, example_shows};
 pub use held::{
     copy_keeps_held, hand_in_keeps_held, hand_out_keeps_held, raise_keeps_held, take_keeps_held,
     write_keeps_held,
