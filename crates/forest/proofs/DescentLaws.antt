@@ -5,17 +5,18 @@ use Rattle.std.proofs.Math.Path.{subst}
 use Rattle.std.proofs.lemmas.Bool.{cases_eq, cases_lt}
 use Rattle.kn_base.specs.declared.key.Key.{Key}
 use Rattle.kn_base.specs.declared.key.Key.TheVariants.{Null, Number, Page, Node, Segment, Start, Resume, Domain, Meter, Service}
-use Rattle.unix_model.specs.Tables.{at}
+use Rattle.unix_model.specs.Tables.{at, with_at}
 use Rattle.forest.specs.Objects.{Object, PageObject, NodeObject, Owner, named}
-use Rattle.forest.specs.Walks.{place_of, key_below, key_along, space_key, IsWay, mapping_of, map_of}
+use Rattle.forest.specs.Walks.{place_of, key_below, key_along, space_key, IsWay, mapping_of, map_of, digits, page_way}
 use Rattle.forest.specs.Forest.{Forest, Sound, IsSpace, Rooted, NobodyNames, OwnWay, CountedOnce, EndsAt, FitsBelow, FitsUnder, key_height, Held, top_digit, node_way}
-use Rattle.forest.specs.Changes.{with_copy, with_fresh, IsFree, MayStand}
+use Rattle.forest.specs.Changes.{with_copy, with_fresh, with_key, IsFree, MayStand, BelongsAt}
 use Rattle.forest.specs.Descent.{MadeOwn, root, kept, copied}
-use Rattle.forest.specs.Laws.{MakesWayOwn, PageMayStand}
+use Rattle.forest.specs.Laws.{MakesWayOwn, PageMayStand, ChangesOnePage}
 use Rattle.forest.proofs.WalkLaws.{step}
 use Rattle.forest.proofs.OwnLaws.{alone_way}
 use Rattle.forest.proofs.MapLaws.{node_key, fresh_keeps_maps, page_no_node}
-use Rattle.forest.proofs.OwnMaps.{way_of_node, length-node_way}
+use Rattle.forest.proofs.OwnMaps.{way_of_node, length-node_way, page_way-parts, OwnEnd, own_end, short_way, this_way, write_changes_one_map}
+use Rattle.forest.proofs.WriteHeld.{write_keeps_held}
 use Rattle.forest.proofs.CopyLaws.{free_unnamed, end_owned, counted_once, once, copy_makes_own}
 use Rattle.forest.proofs.ReleaseLaws.{some_not_none}
 use Rattle.forest.proofs.ReachLaws.{way_height, way_owner}
@@ -155,6 +156,7 @@ record Descended (outside : Object → ℕ) (hand : List Key) (space : ℕ) (own
   ends : EndsAt last.keys space way (NodeObject node)
   spaces : (other : ℕ) → IsSpace first hand other ↔ IsSpace last hand other
   maps : (other : ℕ) → IsSpace first hand other → map_of last.keys other ≡ map_of first.keys other
+  owners : (object : Object) → IsSome (first.owner object) → last.owner object ≡ first.owner object
   few : taken ≤ length way
   unchanged : OwnWay first space way → (taken ≡ 0) × (last ≡ first)
 
@@ -172,6 +174,7 @@ descend outside hand space owner (root {first}) start is_way short top = record 
   ends = refl;
   spaces = λ other. (λ is. is, λ is. is);
   maps = λ other is. refl;
+  owners = λ object some. refl;
   few = omega arith;
   unchanged = λ own. (refl, refl);
 }
@@ -194,6 +197,7 @@ descend outside hand space owner (kept {first} {last} {way} {taken} digit above 
       ends = n.1;
       spaces = d.spaces;
       maps = d.maps;
+      owners = d.owners;
       few = omega arith;
       unchanged = λ own. d.unchanged own.1;
     }
@@ -218,6 +222,10 @@ descend outside hand space owner (copied {first} {last} {way} {taken} digit node
       ends = own.1;
       spaces = λ other. (λ is. (held.1 other).0 ((d.spaces other).0 is), λ is. (d.spaces other).1 ((held.1 other).1 is));
       maps = λ other is. maps other ((d.spaces other).0 is) ∙ d.maps other is;
+      owners = λ object some.
+          other_object last.owner (NodeObject fresh) (Some owner) object
+          (λ t. some_not_none (first.owner object) some (sym (d.owners object some) ∙ ap last.owner t ∙ free.unowned))
+          ∙ d.owners object some;
       few = omega arith;
       unchanged = λ own_first.
           let same = (d.unchanged own_first.1).1 in
@@ -228,7 +236,7 @@ pub makes_way_own : MakesWayOwn
 makes_way_own outside hand space owner first last way taken held is_space space_owner is_way short top made =
     let d = descend outside hand space owner made (record { held = held; is_space = is_space; space_owner = space_owner; is_way = tt; own = tt })
     is_way short top in
-    (d.end.held, d.end.own, (d.node, d.ends), d.spaces, d.maps, d.few, d.unchanged)
+    (d.end.held, d.end.own, (d.node, d.ends), d.spaces, d.maps, d.owners, d.few, d.unchanged)
 
 leaf_low : (key : Key) → FitsUnder 1 key → key_height key < 5
 leaf_low (Segment node height) fits = let next = fits.1 in omega arith
@@ -265,3 +273,53 @@ page_may_stand forest outside hand space page node key held is_space own ends fi
       not_itself = leaf_names_page key (place_of node (page % 16) / 16) fits;
       root = λ is. absurd (not_space forest hand space node (node_way page) (omega arith) ends (rw split at is));
     }
+
+page_top : (page : ℕ) → page < 2 ^ 19 → top_digit (node_way page) < 8
+unfolding node_way digits
+page_top page below = omega arith
+
+-- a way stays own where a key is written below its end
+own_kept : (forest : Forest) (space node digit : ℕ) (way : List ℕ) (key : Key) → OwnEnd forest.keys space way node → digit < 16
+    → (w : List ℕ) → IsWay w → length w ≤ length way → OwnWay forest space w → OwnWay (with_key forest (place_of node digit) key) space w
+own_kept forest space node digit way key end below [] is short own = tt
+own_kept forest space node digit way key end below (d ∷ w) is short own =
+    let o = once forest (key_along forest.keys (space_key space) (d ∷ w)) own.0 in (
+      counted_once (with_key forest (place_of node digit) key) (key_along (with_at forest.keys (place_of node digit) key) (space_key space) (d ∷ w)) o.object
+          (ap named (short_way forest.keys space node digit way key end below space end.free (d ∷ w) is short) ∙ o.names_it) o.counted,
+      own_kept forest space node digit way key end below w is.1 (omega arith) own.1,
+    )
+
+leaf_below : (keys : ℕ → Key) (key : Key) (digit : ℕ) → FitsUnder 1 key → FitsBelow key (key_below keys key digit)
+leaf_below keys (Segment n height) digit fits = let next = fits.1 in let positive = fits.0 in absurd (omega arith)
+leaf_below keys _ digit fits = tt
+
+pub changes_one_page : ChangesOnePage
+changes_one_page outside hand space owner first last page node key taken held is_space space_owner below fits key_owner made ends =
+    let four = length-node_way page in
+    let d = descend outside (key ∷ hand) space owner made (record { held = held; is_space = is_space; space_owner = space_owner; is_way = tt; own = tt })
+    (way_of_node page) (omega arith) (page_top page below) in
+    let may = page_may_stand last outside (key ∷ hand) space page node key d.end.held d.end.is_space d.end.own ends fits in
+    let split : place_of node (page % 16) / 16 ≡ node = omega arith in
+    let belongs : BelongsAt last (place_of node (page % 16)) key = record {
+      same_owner = λ object h.
+          d.owners object (ap is_some (key_owner object h)) ∙ key_owner object h ∙ sym d.end.space_owner
+          ∙ sym (way_owner last d.end.held.sound space (node_way page) (way_of_node page) (NodeObject node) ends)
+          ∙ ap (λ n. last.owner (NodeObject n)) (sym split);
+      heights = λ digit small. leaf_below last.keys key digit fits;
+    } in
+    let one = write_changes_one_map last outside (key ∷ hand) space page node key d.end.held.sound d.end.held.exact d.end.is_space below d.end.own ends in
+    let end = own_end last outside (key ∷ hand) space node (node_way page) d.end.held.sound d.end.held.exact d.end.is_space (way_of_node page) d.end.own ends in
+    let few = d.few in (
+      write_keeps_held last outside hand (place_of node (page % 16)) key d.end.held may belongs,
+      one.0 ∙ ap (λ map. with_at map page (mapping_of key)) (d.maps space is_space),
+      λ other is apart. one.1 other ((d.spaces other).0 is) apart ∙ d.maps other is,
+      omega arith,
+      λ counted.
+          let o = once last key counted in
+          rw page_way-parts (
+            counted_once (with_key last (place_of node (page % 16)) key)
+                (key_along (with_at last.keys (place_of node (page % 16)) key) (space_key space) (page % 16 ∷ node_way page)) o.object
+                (ap named (this_way last.keys space node (page % 16) (node_way page) key end (omega arith)) ∙ o.names_it) o.counted,
+            own_kept last space node (page % 16) (node_way page) key end (omega arith) (node_way page) (way_of_node page) (omega arith) d.end.own,
+          ),
+    )

@@ -31,7 +31,7 @@ pub record OwnEnd (keys : ℕ → Key) (space : ℕ) (way : List ℕ) (node : �
   pub ends : EndsAt keys space way (NodeObject node)
 
 -- a way that isn't longer doesn't step on a key of the node
-short_way : (keys : ℕ → Key) (space node digit : ℕ) (way : List ℕ) (key : Key) → OwnEnd keys space way node → digit < 16
+pub short_way : (keys : ℕ → Key) (space node digit : ℕ) (way : List ℕ) (key : Key) → OwnEnd keys space way node → digit < 16
     → (other : ℕ) → NobodyNames keys (NodeObject other) → (other_way : List ℕ) → IsWay other_way → length other_way ≤ length way
     → key_along (with_at keys (place_of node digit) key) (space_key other) other_way ≡ key_along keys (space_key other) other_way
 short_way keys space node digit way key own below other other_free [] w short = refl
@@ -63,7 +63,7 @@ other_way_same keys space node digit way key own below other other_free e es w l
     differs (r.0, is_digit, r.1))
 
 -- the key that was written is found on its own way
-this_way : (keys : ℕ → Key) (space node digit : ℕ) (way : List ℕ) (key : Key) → OwnEnd keys space way node → digit < 16
+pub this_way : (keys : ℕ → Key) (space node digit : ℕ) (way : List ℕ) (key : Key) → OwnEnd keys space way node → digit < 16
     → key_along (with_at keys (place_of node digit) key) (space_key space) (digit ∷ way) ≡ key
 this_way keys space node digit way key own below =
     ap (λ upper. key_below (with_at keys (place_of node digit) key) upper digit)

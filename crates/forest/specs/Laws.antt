@@ -5,7 +5,7 @@ use Rattle.kn_base.specs.declared.key.Key.TheVariants.{Null, Number, Page, Node,
 use Rattle.unix_model.specs.Tables.{at, with_at, count_below, sum_below}
 use Rattle.forest.specs.Objects.{Object, PageObject, NodeObject, Owner, named, with_object}
 use Rattle.forest.specs.Walks.{key_along, key_below, space_key, IsWay, page_way, Mapping, mapping_of, map_of, place_of}
-use Rattle.forest.specs.Forest.{Forest, Exact, Sound, IsSpace, OwnWay, EndsAt, NobodyNames, in_hand, namings, node_way, nodes_to_take, FitsBelow, FitsUnder, key_height, IsRoot, masked, Held, NoPageOutside, top_digit}
+use Rattle.forest.specs.Forest.{Forest, Exact, Sound, IsSpace, OwnWay, CountedOnce, EndsAt, NobodyNames, in_hand, namings, node_way, nodes_to_take, FitsBelow, FitsUnder, key_height, IsRoot, masked, Held, NoPageOutside, top_digit}
 use Rattle.forest.specs.Changes.{raised, lowered, with_key, with_taken, with_given, and_outside, filled, with_fresh, with_copy, IsFree, MayStand, BelongsAt}
 use Rattle.forest.specs.Descent.{MadeOwn}
 use Rattle.forest.specs.Release.{Release}
@@ -155,6 +155,7 @@ MakesWayOwn =
     × ((node : ℕ) × EndsAt last.keys space way (NodeObject node))
     × ((other : ℕ) → IsSpace first hand other ↔ IsSpace last hand other)
     × ((other : ℕ) → IsSpace first hand other → map_of last.keys other ≡ map_of first.keys other)
+    × ((object : Object) → IsSome (first.owner object) → last.owner object ≡ first.owner object)
     × (taken ≤ length way)
     × (OwnWay first space way → (taken ≡ 0) × (last ≡ first))
 
@@ -283,3 +284,21 @@ PageMayStand =
     → Held forest outside hand → IsSpace forest hand space
     → OwnWay forest space (node_way page) → EndsAt forest.keys space (node_way page) (NodeObject node)
     → FitsUnder 1 key → MayStand forest hand (place_of node (page % 16)) key
+
+-- A page of a space is changed: the way to it is made this space's own, and a key in hand is written at its end. The map of
+-- this space changes at this page number, the spaces are the same, every other one keeps its map, at most four nodes are
+-- taken, and the key that stood there is in hand. Where the new key's object is counted once, the whole way is this
+-- space's own.
+abbrev pub ChangesOnePage : Type 0
+ChangesOnePage =
+    (outside : Object → ℕ) (hand : List Key) (space : ℕ) (owner : Owner) (first last : Forest) (page node : ℕ) (key : Key) (taken : ℕ)
+    → Held first outside (key ∷ hand) → IsSpace first (key ∷ hand) space → first.owner (NodeObject space) ≡ Some owner
+    → page < 2 ^ 19 → FitsUnder 1 key → ((object : Object) → named key ≡ Some object → first.owner object ≡ Some owner)
+    → MadeOwn outside (key ∷ hand) space owner first (node_way page) last taken
+    → EndsAt last.keys space (node_way page) (NodeObject node)
+    → Held (with_key last (place_of node (page % 16)) key) outside (at last.keys (place_of node (page % 16)) ∷ hand)
+    × (map_of (with_key last (place_of node (page % 16)) key).keys space ≡ with_at (map_of first.keys space) page (mapping_of key))
+    × ((other : ℕ) → IsSpace first (key ∷ hand) other → other ≢ space
+    → map_of (with_key last (place_of node (page % 16)) key).keys other ≡ map_of first.keys other)
+    × (taken ≤ 4)
+    × (CountedOnce last key → OwnWay (with_key last (place_of node (page % 16)) key) space (page_way page))

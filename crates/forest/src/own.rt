@@ -1,6 +1,6 @@
 //! What is counted once is reached once.
 
-ghost use Rattle.forest.specs.Laws.{CopyMakesOwn, MakesWayOwn, PageMayStand, FewNodesToTake, OwnIsAlone, OwnPageIsAlone};
+ghost use Rattle.forest.specs.Laws.{CopyMakesOwn, MakesWayOwn, ChangesOnePage, PageMayStand, FewNodesToTake, OwnIsAlone, OwnPageIsAlone};
 
 /// A node that is copied, or put where none stood, at the end of an own way makes the way own for one digit more.
 pub fn copy_makes_own()
@@ -12,6 +12,11 @@ pub fn copy_makes_own()
 /// and nothing changes where the way was its own before.
 pub fn makes_way_own()
     ensures { MakesWayOwn }
+{}
+
+/// A page of a space is changed: the way to it is made own, and a key is written at its end.
+pub fn changes_one_page()
+    ensures { ChangesOnePage }
 {}
 
 /// At the end of an own way to a page the key of a page may stand, or none.
