@@ -7,12 +7,11 @@ use Rattle.kn_base.specs.declared.key.Key.TheVariants.{Null, Number, Page, Node,
 use Rattle.unix_model.specs.Tables.{at, with_at, count_below}
 use Rattle.forest.specs.Objects.{Object, PageObject, NodeObject, Owner, named, names, same_object, is_object, with_object}
 use Rattle.forest.specs.Walks.{place_of, key_below, key_along, space_key, IsWay}
-use Rattle.forest.specs.Forest.{Forest, Sound, Exact, IsSpace, NobodyNames, OwnWay, CountedOnce, EndsAt, node_way, nodes_to_take, is_counted_once}
+use Rattle.forest.specs.Forest.{Forest, Sound, Exact, IsSpace, NobodyNames, OwnWay, CountedOnce, EndsAt}
 use Rattle.forest.specs.Changes.{filled, with_fresh, with_copy, copied_count, IsFree}
-use Rattle.forest.specs.Laws.{CopyMakesOwn, FewNodesToTake}
+use Rattle.forest.specs.Laws.{CopyMakesOwn}
 use Rattle.forest.proofs.WalkLaws.{step}
 use Rattle.forest.proofs.OwnLaws.{own_is_alone, owned_object}
-use Rattle.forest.proofs.OwnMaps.{length-node_way}
 use Rattle.forest.proofs.ExactLaws.{not_named, with_object-here}
 use Rattle.forest.proofs.MapLaws.{node_key, Like, same, replaced, Fresh, fresh_is, like_along, not_the_node}
 
@@ -167,45 +166,3 @@ copy_makes_own forest outside hand space node digit fresh height way owner sound
       ends = ends;
     } in
     (now_own forest outside hand space node digit fresh height way owner c, ap named (key_now forest outside hand space node digit fresh height way owner c))
-
-few_nodes : (forest : Forest) (space : ℕ) (way : List ℕ) → nodes_to_take forest space way ≤ length way
-few_nodes forest space [] = omega arith
-few_nodes forest space (digit ∷ way) =
-    let above = few_nodes forest space way in
-    ⊎_elim
-    (λ (e : (nodes_to_take forest space way == 0 && is_counted_once forest (named (key_along forest.keys (space_key space) (digit ∷ way)))) ≡ true). rw e (omega arith))
-    (λ (e : (nodes_to_take forest space way == 0 && is_counted_once forest (named (key_along forest.keys (space_key space) (digit ∷ way)))) ≡ false). rw e (omega arith))
-    (cases_Bool (nodes_to_take forest space way == 0 && is_counted_once forest (named (key_along forest.keys (space_key space) (digit ∷ way)))))
-
-test_once : (forest : Forest) (there : Option Object) → is_counted_once forest there ≡ true → IsSomeAnd there (λ object. forest.count object ≡ 1)
-test_once forest None h = cc
-test_once forest (Some object) h = eqb-true (forest.count object) 1 h
-
-once_test : (forest : Forest) (there : Option Object) → IsSomeAnd there (λ object. forest.count object ≡ 1) → is_counted_once forest there ≡ true
-once_test forest None h = absurd h
-once_test forest (Some object) h = eq-eqb (forest.count object) 1 h
-
-none_to_take : (forest : Forest) (space : ℕ) (way : List ℕ) → nodes_to_take forest space way ≡ 0 → OwnWay forest space way
-none_to_take forest space [] h = tt
-none_to_take forest space (digit ∷ way) h = ⊎_elim
-    (λ (e : (nodes_to_take forest space way == 0 && is_counted_once forest (named (key_along forest.keys (space_key space) (digit ∷ way)))) ≡ true).
-    let both = and_parts (nodes_to_take forest space way == 0) (is_counted_once forest (named (key_along forest.keys (space_key space) (digit ∷ way)))) e in (
-      test_once forest (named (key_along forest.keys (space_key space) (digit ∷ way))) both.1,
-      none_to_take forest space way (eqb-true (nodes_to_take forest space way) 0 both.0),
-    ))
-    (λ (e : (nodes_to_take forest space way == 0 && is_counted_once forest (named (key_along forest.keys (space_key space) (digit ∷ way)))) ≡ false).
-    absurd (let more : nodes_to_take forest space way + 1 ≡ 0 = rw e at h in omega arith))
-    (cases_Bool (nodes_to_take forest space way == 0 && is_counted_once forest (named (key_along forest.keys (space_key space) (digit ∷ way)))))
-
-own_none_to_take : (forest : Forest) (space : ℕ) (way : List ℕ) → OwnWay forest space way → nodes_to_take forest space way ≡ 0
-own_none_to_take forest space [] own = refl
-own_none_to_take forest space (digit ∷ way) own =
-    let above = own_none_to_take forest space way own.1 in
-    rw (and_from (nodes_to_take forest space way == 0) (is_counted_once forest (named (key_along forest.keys (space_key space) (digit ∷ way))))
-    (eq-eqb (nodes_to_take forest space way) 0 above) (once_test forest (named (key_along forest.keys (space_key space) (digit ∷ way))) own.0)) refl
-
-pub few_nodes_to_take : FewNodesToTake
-few_nodes_to_take forest space page = (
-  let few = few_nodes forest space (node_way page) in let four = length-node_way page in omega arith,
-  (none_to_take forest space (node_way page), own_none_to_take forest space (node_way page)),
-)

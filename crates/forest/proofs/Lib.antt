@@ -13,6 +13,7 @@ pub mod HeldLaws
 pub mod WriteHeld
 pub mod CopyHeld
 pub mod DescentLaws
+pub mod PruneLaws
 pub mod MaskLaws
 pub mod ExampleLaws
 pub mod ExampleShows

@@ -151,7 +151,7 @@ one_down keys (Segment node height) digit object fits h = fitted height (at keys
 one_down keys _ digit object fits h = cc
 
 -- the first step from a root
-root_fits : (keys : ℕ → Key) (space digit : ℕ) (object : Object) → IsRoot keys space → digit < 16 → named (at keys (place_of space digit)) ≡ Some object
+pub root_fits : (keys : ℕ → Key) (space digit : ℕ) (object : Object) → IsRoot keys space → digit < 16 → named (at keys (place_of space digit)) ≡ Some object
     → (digit < 8) × FitsUnder 5 (at keys (place_of space digit))
 root_fits keys space digit object root below h = ⊎_elim
     (λ (small : digit < 8). (small, root.parts digit small))

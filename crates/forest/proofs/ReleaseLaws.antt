@@ -238,7 +238,7 @@ given_keeps forest outside key hand object held e once empty =
     }
 
 -- keys with Null at a place
-taken_named : (keys : ℕ → Key) (place p : ℕ) (object : Object) → named (at (with_at keys place Null) p) ≡ Some object → named (at keys p) ≡ Some object
+pub taken_named : (keys : ℕ → Key) (place p : ℕ) (object : Object) → named (at (with_at keys place Null) p) ≡ Some object → named (at keys p) ≡ Some object
 taken_named keys place p object h = ⊎_elim
     (λ (t : p ≡ place). absurd (let null : named Null ≡ Some object = ap named (sym (at-with_at keys place Null)) ∙ ap (λ q. named (at (with_at keys place Null) q)) (sym t) ∙ h in cc))
     (λ (t : p ≢ place). ap named (sym (at-with_at-other keys place p Null t)) ∙ h)

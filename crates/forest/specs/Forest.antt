@@ -121,20 +121,6 @@ EndsAt keys space way object = named (key_along keys (space_key space) way) ≡ 
 unfoldable pub node_way : ℕ → List ℕ
 node_way page = digits 4 (page / 16)
 
--- whether a key names an object that is counted once
-abbrev pub is_counted_once : Forest → Option Object → Bool
-is_counted_once forest None = false
-is_counted_once forest (Some object) = forest.count object == 1
-
--- How many nodes are taken to make a way this space's own: none as long as each object on it is counted once, and from the
--- first one that isn't, or isn't there, one for each digit, since what stands below a copied node is shared.
-abbrev pub nodes_to_take : Forest → ℕ → List ℕ → ℕ
-nodes_to_take forest space [] = 0
-nodes_to_take forest space (digit ∷ way) =
-    if nodes_to_take forest space way == 0 && is_counted_once forest (named (key_along forest.keys (space_key space) (digit ∷ way)))
-    then 0
-    else nodes_to_take forest space way + 1
-
 -- pages of trees are named by keys of trees alone
 abbrev pub NoPageOutside : Forest → (Object → ℕ) → Type 0
 NoPageOutside forest outside = (page : ℕ) → IsSome (forest.owner (PageObject page)) → outside (PageObject page) ≡ 0

@@ -5,7 +5,7 @@ use Rattle.kn_base.specs.declared.key.Key.TheVariants.{Null, Number, Page, Node,
 use Rattle.unix_model.specs.Tables.{at, with_at, count_below, sum_below}
 use Rattle.forest.specs.Objects.{Object, PageObject, NodeObject, Owner, named, with_object}
 use Rattle.forest.specs.Walks.{key_along, key_below, space_key, IsWay, page_way, Mapping, mapping_of, map_of, place_of}
-use Rattle.forest.specs.Forest.{Forest, Exact, Sound, IsSpace, OwnWay, CountedOnce, EndsAt, NobodyNames, in_hand, namings, node_way, nodes_to_take, FitsBelow, FitsUnder, key_height, IsRoot, masked, Held, NoPageOutside, top_digit}
+use Rattle.forest.specs.Forest.{Forest, Exact, Sound, IsSpace, OwnWay, CountedOnce, EndsAt, NobodyNames, in_hand, namings, node_way, FitsBelow, FitsUnder, key_height, IsRoot, masked, Held, NoPageOutside, top_digit}
 use Rattle.forest.specs.Changes.{raised, lowered, with_key, with_taken, with_given, and_outside, filled, with_fresh, with_copy, IsFree, MayStand, BelongsAt}
 use Rattle.forest.specs.Descent.{MadeOwn}
 use Rattle.forest.specs.Release.{Release}
@@ -159,13 +159,6 @@ MakesWayOwn =
     × (taken ≤ length way)
     × (OwnWay first space way → (taken ≡ 0) × (last ≡ first))
 
--- At most four nodes are taken to make the way to a page this space's own, and none exactly where it is its own.
-abbrev pub FewNodesToTake : Type 0
-FewNodesToTake =
-    (forest : Forest) (space page : ℕ)
-    → (nodes_to_take forest space (node_way page) ≤ 4)
-    × ((nodes_to_take forest space (node_way page) ≡ 0) ↔ OwnWay forest space (node_way page))
-
 -- Releasing keeps counts exact, and leaves every other space its map.
 abbrev pub ReleaseKeepsSpaces : Type 0
 ReleaseKeepsSpaces =
@@ -302,3 +295,15 @@ ChangesOnePage =
     → map_of (with_key last (place_of node (page % 16)) key).keys other ≡ map_of first.keys other)
     × (taken ≤ 4)
     × (CountedOnce last key → OwnWay (with_key last (place_of node (page % 16)) key) space (page_way page))
+
+-- A node that has become empty is pruned: its key is taken from its place, and it is given back. All spaces stay, and keep
+-- their maps.
+abbrev pub PruneKeepsMaps : Type 0
+PruneKeepsMaps =
+    (forest : Forest) (outside : Object → ℕ) (hand : List Key) (place node : ℕ)
+    → Held forest outside hand → named (at forest.keys place) ≡ Some (NodeObject node) → forest.count (NodeObject node) ≡ 1
+    → ((digit : ℕ) → digit < 16 → at forest.keys (place_of node digit) ≡ Null)
+    → Held (with_given (with_key forest place Null) (NodeObject node)) outside hand
+    × ((space : ℕ) → IsSpace forest hand space
+    → IsSpace (with_given (with_key forest place Null) (NodeObject node)) hand space
+    × (map_of (with_given (with_key forest place Null) (NodeObject node)).keys space ≡ map_of forest.keys space))

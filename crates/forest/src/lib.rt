@@ -23,12 +23,12 @@ pub use held::{
     write_keeps_held,
 };
 pub use maps::{
-    detach_keeps_maps, fresh_keeps_maps, masked_owners, masked_writes, share_keeps_maps,
-    unnamed_keeps_maps, write_changes_one_map,
+    detach_keeps_maps, fresh_keeps_maps, masked_owners, masked_writes, prune_keeps_maps,
+    share_keeps_maps, unnamed_keeps_maps, write_changes_one_map,
 };
 pub use own::{
-    changes_one_page, copy_makes_own, few_nodes_to_take, makes_way_own, own_is_alone,
-    own_page_is_alone, page_may_stand,
+    changes_one_page, copy_makes_own, makes_way_own, own_is_alone, own_page_is_alone,
+    page_may_stand,
 };
 pub use reach::{
     alike_is_equally_many, every_page_is_mapped, everything_is_reached, mapped_is_sum,

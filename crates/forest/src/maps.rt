@@ -1,6 +1,6 @@
 //! Changes that leave the maps of spaces as they are.
 
-ghost use Rattle.forest.specs.Laws.{MaskedWrites, MaskedOwners, FreshKeepsMaps, DetachKeepsMaps, ShareKeepsMaps, WriteChangesOneMap, UnnamedKeepsMaps};
+ghost use Rattle.forest.specs.Laws.{MaskedWrites, MaskedOwners, FreshKeepsMaps, DetachKeepsMaps, ShareKeepsMaps, WriteChangesOneMap, PruneKeepsMaps, UnnamedKeepsMaps};
 
 /// Writing a key of a node that belongs to no tree leaves the forest as it is.
 pub fn masked_writes()
@@ -31,6 +31,11 @@ pub fn share_keeps_maps()
 /// Writing the key at the end of an own way changes the map of this space at this page number, and nothing else.
 pub fn write_changes_one_map()
     ensures { WriteChangesOneMap }
+{}
+
+/// A node that has become empty is pruned: all spaces stay, and keep their maps.
+pub fn prune_keeps_maps()
+    ensures { PruneKeepsMaps }
 {}
 
 /// The keys of a node that nobody names make no difference to any other space.

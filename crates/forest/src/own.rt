@@ -1,6 +1,6 @@
 //! What is counted once is reached once.
 
-ghost use Rattle.forest.specs.Laws.{CopyMakesOwn, MakesWayOwn, ChangesOnePage, PageMayStand, FewNodesToTake, OwnIsAlone, OwnPageIsAlone};
+ghost use Rattle.forest.specs.Laws.{CopyMakesOwn, MakesWayOwn, ChangesOnePage, PageMayStand, OwnIsAlone, OwnPageIsAlone};
 
 /// A node that is copied, or put where none stood, at the end of an own way makes the way own for one digit more.
 pub fn copy_makes_own()
@@ -22,11 +22,6 @@ pub fn changes_one_page()
 /// At the end of an own way to a page the key of a page may stand, or none.
 pub fn page_may_stand()
     ensures { PageMayStand }
-{}
-
-/// At most four nodes are taken to make the way to a page own, and none exactly where it is own.
-pub fn few_nodes_to_take()
-    ensures { FewNodesToTake }
 {}
 
 /// What a space reaches on a way of objects that are counted once is reached by no other space, and by this one on no
