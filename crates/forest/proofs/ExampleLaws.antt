@@ -16,7 +16,7 @@ use Rattle.forest.proofs.HeldLaws.{take_keeps_held, raise_keeps_held, hand_out_k
 use Rattle.forest.proofs.WriteHeld.{write_keeps_held, written_root}
 use Rattle.forest.proofs.CopyLaws.{free_unnamed}
 use Rattle.forest.proofs.DescentLaws.{makes_way_own, page_may_stand}
-use Rattle.forest.proofs.ReleaseLaws.{release_keeps_spaces}
+use Rattle.forest.proofs.ReleaseLaws.{drop_null}
 
 nothing_held : Held nothing_yet (λ object. 0) []
 unfolding nothing_yet at in_hand
@@ -68,10 +68,6 @@ pub space_of : (forest : Forest) (outside : Object → ℕ) (hand : List Key) (s
 space_of forest outside hand space held owned out =
     let apart = held.apart (NodeObject space) out in
     record { owned = owned; unnamed = apart.0; not_in_hand = apart.1 }
-
--- a Null key goes out of hand
-drop_null : (forest : Forest) (outside : Object → ℕ) (hand : List Key) → Held forest outside (Null ∷ hand) → Held forest outside hand
-drop_null forest outside hand held = (release_keeps_spaces forest forest outside (Null ∷ hand) hand held (more (nothing Null refl) done)).0
 
 way_5_held : Held way_5 one_outside []
 unfolding one_space nothing_yet with_object

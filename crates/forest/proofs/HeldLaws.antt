@@ -87,7 +87,7 @@ take_keeps_held forest outside hand key object owner held e free within =
 more_hand : (key : Key) (hand : List Key) (object : Object) → (named key ≡ Some object → ⊥) → in_hand hand object ≡ 0 → in_hand (key ∷ hand) object ≡ 0
 more_hand key hand object differs none = no_name key hand object (not_named key object differs) ∙ none
 
-more_owner : (forest : Forest) (there : Option Object) → (counted_more forest there).owner ≡ forest.owner
+pub more_owner : (forest : Forest) (there : Option Object) → (counted_more forest there).owner ≡ forest.owner
 more_owner forest None = refl
 more_owner forest (Some object) = refl
 

@@ -14,6 +14,7 @@ pub mod WriteHeld
 pub mod CopyHeld
 pub mod DescentLaws
 pub mod PruneLaws
+pub mod ShareLaws
 pub mod MaskLaws
 pub mod ExampleLaws
 pub mod ExampleShows

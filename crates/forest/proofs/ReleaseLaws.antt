@@ -407,3 +407,7 @@ release_gives_unnamed old new outside old_hand new_hand held r object some =
           let places = nobody_counted new object (λ place h. some_not_none (new.owner object) (owned_object new k.held.sound place object h) none) in
           omega arith),
     )
+
+-- a Null key goes out of hand
+pub drop_null : (forest : Forest) (outside : Object → ℕ) (hand : List Key) → Held forest outside (Null ∷ hand) → Held forest outside hand
+drop_null forest outside hand held = (release_keeps_spaces forest forest outside (Null ∷ hand) hand held (more (nothing Null refl) done)).0

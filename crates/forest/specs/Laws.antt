@@ -307,3 +307,12 @@ PruneKeepsMaps =
     × ((space : ℕ) → IsSpace forest hand space
     → IsSpace (with_given (with_key forest place Null) (NodeObject node)) hand space
     × (map_of (with_given (with_key forest place Null) (NodeObject node)).keys space ≡ map_of forest.keys space))
+
+-- A key of a tree is copied to an empty place of a fresh root in hand: what it names is counted once more.
+abbrev pub ShareKeepsHeld : Type 0
+ShareKeepsHeld =
+    (forest : Forest) (outside : Object → ℕ) (hand : List Key) (from fresh digit : ℕ)
+    → Held forest outside hand → 1 ≤ in_hand hand (NodeObject fresh) → NobodyNames forest.keys (NodeObject fresh)
+    → forest.owner (NodeObject fresh) ≡ forest.owner (NodeObject (from / 16)) → digit < 16
+    → at forest.keys (place_of fresh digit) ≡ Null
+    → Held (with_key (raised forest (at forest.keys from)) (place_of fresh digit) (at forest.keys from)) outside hand

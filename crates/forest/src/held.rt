@@ -1,6 +1,6 @@
 //! All that holds of a forest goes on to hold while it changes.
 
-ghost use Rattle.forest.specs.Laws.{TakeKeepsHeld, RaiseKeepsHeld, WriteKeepsHeld, HandOutKeepsHeld, HandInKeepsHeld, CopyKeepsHeld};
+ghost use Rattle.forest.specs.Laws.{TakeKeepsHeld, RaiseKeepsHeld, WriteKeepsHeld, HandOutKeepsHeld, HandInKeepsHeld, ShareKeepsHeld, CopyKeepsHeld};
 
 /// An object that nothing names is taken.
 pub fn take_keeps_held()
@@ -25,6 +25,11 @@ pub fn hand_out_keeps_held()
 /// A key that a domain or a table gave up is in hand.
 pub fn hand_in_keeps_held()
     ensures { HandInKeepsHeld }
+{}
+
+/// A key is copied to an empty place of a fresh root.
+pub fn share_keeps_held()
+    ensures { ShareKeepsHeld }
 {}
 
 /// A node is copied, or put where none stood.

@@ -19,8 +19,8 @@ pub use exact::{
 };
 pub use example::{example_holds, example_shows};
 pub use held::{
-    copy_keeps_held, hand_in_keeps_held, hand_out_keeps_held, raise_keeps_held, take_keeps_held,
-    write_keeps_held,
+    copy_keeps_held, hand_in_keeps_held, hand_out_keeps_held, raise_keeps_held, share_keeps_held,
+    take_keeps_held, write_keeps_held,
 };
 pub use maps::{
     detach_keeps_maps, fresh_keeps_maps, masked_owners, masked_writes, prune_keeps_maps,
