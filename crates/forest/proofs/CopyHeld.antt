@@ -1,24 +1,23 @@
 -- A node that is copied, or put where none stood: counts stay exact, and heights and owners fit.
-use Rattle.std.proofs.Common.{◌≡◌, ◌≢◌, ◌<◌, ◌≤◌, ◌+◌, ◌-◌, ◌*◌, ◌/◌, ◌%◌, ◌^◌, ℕ, zero, suc, Bool, true, false, Option, Some, None, List, [], ◌∷◌, refl, ap, sym, ◌∙◌, arith, if◌then◌else◌, ⊎_elim, nat_lt, ◌==◌, ◌⊎◌, inl, inr}
+use Rattle.std.proofs.Common.{◌≡◌, ◌≢◌, ◌<◌, ◌≤◌, ◌+◌, ◌-◌, ◌*◌, ◌/◌, ◌%◌, ℕ, zero, suc, Bool, true, false, Some, None, List, refl, ap, sym, ◌∙◌, arith, ⊎_elim, ◌⊎◌, inl, inr}
 use Rattle.std.specs.Option.{is_some, IsSome}
 use Rattle.std.proofs.lemmas.Bool.{cases_Bool, cases_eq, cases_lt}
 use Rattle.kn_base.specs.declared.key.Key.{Key}
-use Rattle.kn_base.specs.declared.key.Key.TheVariants.{Null, Number, Page, Node, Segment, Start, Resume, Domain, Meter, Service}
-use Rattle.unix_model.specs.Tables.{at, with_at, count_below, sum_below}
+use Rattle.kn_base.specs.declared.key.Key.TheVariants.{Null, Segment}
+use Rattle.unix_model.specs.Tables.{at, count_below, sum_below}
 use Rattle.unix_model.proofs.TableLaws.{at-with_at, at-with_at-other}
-use Rattle.forest.specs.Objects.{Object, PageObject, NodeObject, Owner, named, names, same_object, is_object, with_object}
-use Rattle.forest.specs.Walks.{place_of, key_below, key_along, space_key, IsWay}
-use Rattle.forest.specs.Forest.{Forest, Sound, Exact, IsSpace, IsRoot, Rooted, NobodyNames, FitsBelow, FitsUnder, key_height, in_hand, namings, Counted, Held}
-use Rattle.forest.specs.Changes.{with_count, with_key, raised, counted_more, with_taken, and_outside, filled, with_fresh, with_copy, copied_count, IsFree, MayStand, BelongsAt}
+use Rattle.forest.specs.Objects.{Object, NodeObject, Owner, named, names}
+use Rattle.forest.specs.Walks.{place_of, key_below}
+use Rattle.forest.specs.Forest.{Forest, Sound, Exact, IsSpace, IsRoot, NobodyNames, FitsBelow, FitsUnder, key_height, in_hand, namings, Counted, Held}
+use Rattle.forest.specs.Changes.{filled, with_fresh, with_copy, copied_count, IsFree, MayStand}
 use Rattle.forest.specs.Laws.{CopyKeepsHeld}
-use Rattle.forest.proofs.CountLaws.{same_object-same, same_object-true, names-true, true-names, counted_one}
+use Rattle.forest.proofs.CountLaws.{same_object-same, names-true, counted_one}
 use Rattle.forest.proofs.WalkLaws.{step}
-use Rattle.forest.proofs.OwnLaws.{owned_object, owned_node, place_within}
-use Rattle.forest.proofs.ExactLaws.{bit, not_named, in_hand-cons, raise, write, take, hand_out, hand_in, count-more, more-same, nobody_counted, with_object-here}
-use Rattle.forest.proofs.MapLaws.{node_key}
+use Rattle.forest.proofs.OwnLaws.{owned_object}
+use Rattle.forest.proofs.ExactLaws.{bit, not_named, nobody_counted, with_object-here}
 use Rattle.forest.proofs.CopyLaws.{free_unnamed}
-use Rattle.forest.proofs.ReleaseLaws.{some_not_none, none_or_some, is_or_not, no_name, last_key, front, tail_hand, fits_null}
-use Rattle.forest.proofs.ExactLaws.{count_same, count_changed, namings-written, spaces_back}
+use Rattle.forest.proofs.ReleaseLaws.{some_not_none, is_or_not}
+use Rattle.forest.proofs.ExactLaws.{count_same, namings-written, spaces_back}
 use Rattle.forest.proofs.MapLaws.{at-filled, at-filled-other}
 use Rattle.forest.proofs.MappedLaws.{count_blocks, sum_same}
 use Rattle.forest.proofs.HeldLaws.{other_object}

@@ -1,9 +1,8 @@
 -- Counts: an object that is counted once is named by one place alone.
-use Rattle.std.proofs.Common.{◌≡◌, ◌≢◌, ◌<◌, ◌≤◌, ◌+◌, ◌*◌, ◌/◌, ◌%◌, ℕ, zero, suc, Bool, true, false, Option, Some, None, List, [], ◌∷◌, refl, ap, sym, ◌∙◌, arith, if◌then◌else◌, ⊎_elim}
+use Rattle.std.proofs.Common.{◌≡◌, ◌<◌, ◌≤◌, ℕ, zero, suc, Bool, true, Option, Some, None, refl, ap, sym, ◌∙◌, arith, ⊎_elim}
 use Rattle.std.proofs.lemmas.Bool.{cases_lt, eq-eqb, eqb-true}
 use Rattle.kn_base.specs.declared.key.Key.{Key}
-use Rattle.kn_base.specs.declared.key.Key.TheVariants.{Null, Number, Page, Node, Segment, Start, Resume, Domain, Meter, Service}
-use Rattle.unix_model.specs.Tables.{at, count_below}
+use Rattle.unix_model.specs.Tables.{count_below}
 use Rattle.forest.specs.Objects.{Object, PageObject, NodeObject, same_object, is_object, named, names}
 
 pub same_object-same : (a : Object) → same_object a a ≡ true

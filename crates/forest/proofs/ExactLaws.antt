@@ -1,15 +1,14 @@
 -- Raising, lowering, writing, taking and giving keep counts exact.
-use Rattle.std.proofs.Common.{◌≡◌, ◌≢◌, ◌<◌, ◌≤◌, ◌+◌, ◌-◌, ◌*◌, ◌/◌, ◌%◌, ◌^◌, ℕ, zero, suc, Bool, true, false, Option, Some, None, List, [], ◌∷◌, refl, ap, sym, ◌∙◌, arith, if◌then◌else◌, ⊎_elim, nat_lt}
-use Rattle.std.specs.Option.{is_some, IsSome, IsSomeAnd}
-use Rattle.std.specs.List.{count_by}
+use Rattle.std.proofs.Common.{◌≡◌, ◌≢◌, ◌<◌, ◌≤◌, ◌+◌, ◌-◌, ◌*◌, ℕ, zero, suc, Bool, true, false, Option, Some, None, List, ◌∷◌, refl, ap, sym, ◌∙◌, arith, if◌then◌else◌, ⊎_elim}
+use Rattle.std.specs.Option.{is_some, IsSome}
 use Rattle.std.proofs.lemmas.List.Sums.{sum_by-cons}
-use Rattle.std.proofs.lemmas.Bool.{cases_lt, cases_order, cases_Bool, cases_eq, ltb-true, ltb-false, lt-ltb, eqb-true, eq-eqb, ne_eqb, eqb-false}
+use Rattle.std.proofs.lemmas.Bool.{cases_lt, cases_Bool}
 use Rattle.kn_base.specs.declared.key.Key.{Key}
 use Rattle.unix_model.specs.Tables.{at, with_at, count_below}
 use Rattle.unix_model.proofs.TableLaws.{at-with_at, at-with_at-other}
-use Rattle.forest.specs.Objects.{Object, PageObject, NodeObject, Owner, named, names, same_object, is_object, with_object}
-use Rattle.forest.specs.Forest.{Forest, Sound, Exact, IsSpace, NobodyNames, namings, in_hand}
-use Rattle.forest.specs.Changes.{with_count, with_key, raised, lowered, counted_more, counted_less, with_taken, with_given, and_outside}
+use Rattle.forest.specs.Objects.{Object, NodeObject, named, names, same_object, is_object, with_object}
+use Rattle.forest.specs.Forest.{Forest, Exact, IsSpace, NobodyNames, namings, in_hand}
+use Rattle.forest.specs.Changes.{with_key, counted_more, counted_less, and_outside}
 use Rattle.forest.specs.Laws.{RaiseIsExact, LowerIsExact, WriteIsExact, TakeIsExact, GiveIsExact, HandOutIsExact, HandInIsExact}
 use Rattle.forest.proofs.CountLaws.{true-names, names-true, same_object-true, same_object-same}
 

@@ -1,16 +1,14 @@
 -- The small forest is made by steps that the laws speak of, so that each law's premises are met.
-use Rattle.std.proofs.Common.{◌≡◌, ◌≢◌, ◌<◌, ◌≤◌, ◌+◌, ◌-◌, ◌*◌, ◌/◌, ◌%◌, ◌^◌, ℕ, zero, suc, Bool, true, false, Option, Some, None, List, [], ◌∷◌, length, refl, ap, sym, ◌∙◌, arith}
+use Rattle.std.proofs.Common.{◌≡◌, ◌<◌, ◌≤◌, ◌/◌, ℕ, true, false, Some, None, List, [], ◌∷◌, refl, ap, arith}
 use Rattle.std.specs.Option.{is_some, IsSome}
-use Rattle.std.specs.List.{count_by, sum_by}
 use Rattle.kn_base.specs.declared.key.Key.{Key}
-use Rattle.kn_base.specs.declared.key.Key.TheVariants.{Null, Page, Segment}
+use Rattle.kn_base.specs.declared.key.Key.TheVariants.{Null}
 use Rattle.unix_model.specs.Tables.{at, with_at, count_below}
-use Rattle.forest.specs.Objects.{Object, PageObject, NodeObject, Owner, OfProcess, named, with_object}
-use Rattle.forest.specs.Walks.{place_of, key_below, key_along, space_key, IsWay, page_way, digits, Mapping, map_of}
-use Rattle.forest.specs.Forest.{Forest, Held, IsSpace, IsRoot, OwnWay, EndsAt, NobodyNames, in_hand, node_way}
-use Rattle.forest.specs.Changes.{raised, with_key, with_taken, with_copy, and_outside, copied_count, filled, IsFree, MayStand, BelongsAt}
-use Rattle.forest.specs.Descent.{MadeOwn, root, kept, copied}
-use Rattle.forest.specs.Release.{ReleaseStep, nothing, Release, done, more}
+use Rattle.forest.specs.Objects.{Object, PageObject, NodeObject, OfProcess, named, with_object}
+use Rattle.forest.specs.Walks.{place_of, space_key, page_way, digits, map_of}
+use Rattle.forest.specs.Forest.{Forest, Held, IsSpace, IsRoot, NobodyNames, in_hand, node_way}
+use Rattle.forest.specs.Changes.{and_outside, copied_count, filled, MayStand, BelongsAt}
+use Rattle.forest.specs.Descent.{MadeOwn, root, copied}
 use Rattle.forest.specs.Example.{nothing_yet, one_space, one_outside, way_2, way_3, way_4, way_5, page_taken, page_7, one_page, second_root, child, child_raised, shared, both_outside, way_7, way_8, way_9, way_10, private_taken, page_11, private, blank, example, ExampleHolds}
 use Rattle.forest.proofs.HeldLaws.{take_keeps_held, raise_keeps_held, hand_out_keeps_held}
 use Rattle.forest.proofs.WriteHeld.{write_keeps_held, written_root}

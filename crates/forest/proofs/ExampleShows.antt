@@ -1,16 +1,16 @@
 -- The laws, applied to the small forest.
-use Rattle.std.proofs.Common.{◌≡◌, ◌≢◌, ◌<◌, ◌≤◌, ◌+◌, ◌-◌, ◌*◌, ◌/◌, ◌%◌, ◌^◌, ℕ, zero, suc, Bool, true, false, Option, Some, None, List, [], ◌∷◌, length, refl, ap, sym, ◌∙◌, arith, ⊎_elim, inl, inr, ◌⊎◌, ◌&&◌, ◌==◌, if◌then◌else◌}
-use Rattle.std.specs.Option.{is_some, IsSome}
+use Rattle.std.proofs.Common.{◌≡◌, ◌≢◌, ◌<◌, ◌≤◌, ◌+◌, ℕ, zero, suc, Bool, true, false, Some, None, [], ◌∷◌, refl, sym, ◌∙◌, arith, ⊎_elim, inl, inr, ◌&&◌}
+use Rattle.std.specs.Option.{IsSome}
 use Rattle.std.proofs.lemmas.Bool.{cases_eq, cases_lt, ne_eqb, and_parts}
 use Rattle.kn_base.specs.declared.key.Key.{Key}
-use Rattle.kn_base.specs.declared.key.Key.TheVariants.{Null, Number, Page, Node, Segment, Start, Resume, Domain, Meter, Service}
+use Rattle.kn_base.specs.declared.key.Key.TheVariants.{Null}
 use Rattle.unix_model.specs.Tables.{at, with_at, count_below}
-use Rattle.forest.specs.Objects.{Object, PageObject, NodeObject, Owner, OfProcess, named, with_object}
-use Rattle.forest.specs.Walks.{place_of, key_below, key_along, space_key, page_way, digits, Mapping, map_of}
-use Rattle.forest.specs.Forest.{Forest, Held, IsSpace, EndsAt, in_hand, namings, node_way, NoPageOutside}
-use Rattle.forest.specs.Changes.{raised, with_key, with_taken, with_copy, and_outside, copied_count, filled}
-use Rattle.forest.specs.Release.{ReleaseStep, nothing, shared, take_out, empty_node, Release, done, more}
-use Rattle.forest.specs.Labels.{IsIn, IsProcessSpace, different, labels, shared_page, places_of, is_process}
+use Rattle.forest.specs.Objects.{PageObject, NodeObject, with_object}
+use Rattle.forest.specs.Walks.{key_below, space_key, digits, Mapping, map_of}
+use Rattle.forest.specs.Forest.{Held, IsSpace, in_hand, node_way, NoPageOutside}
+use Rattle.forest.specs.Changes.{and_outside, copied_count, filled}
+use Rattle.forest.specs.Release.{shared, take_out, empty_node, Release, done, more}
+use Rattle.forest.specs.Labels.{IsIn, IsProcessSpace, is_process}
 use Rattle.forest.specs.Example.{nothing_yet, one_space, one_outside, way_2, way_3, way_4, way_5, page_taken, one_page, second_root, child, child_raised, both_outside, way_7, way_8, way_9, way_10, private_taken, private, example, key_out, child_lowered, dropped, ExampleShows}
 use Rattle.forest.specs.Example.{shared as shared_forest}
 use Rattle.forest.proofs.OwnLaws.{own_page_is_alone}

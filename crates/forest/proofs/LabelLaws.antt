@@ -1,13 +1,12 @@
 -- How many different labels there are.
-use Rattle.std.proofs.Common.{◌≡◌, ◌≢◌, ◌<◌, ◌≤◌, ◌+◌, ◌-◌, ◌*◌, ◌/◌, ◌%◌, ◌^◌, ℕ, zero, suc, Bool, true, false, Option, Some, None, List, [], ◌∷◌, ◌++◌, length, refl, ap, sym, ◌∙◌, arith, if◌then◌else◌, ⊎_elim, nat_lt, ◌==◌, ◌⊎◌, inl, inr, ◌||◌, ◌↔◌}
-use Rattle.std.specs.Option.{is_some, IsSome, IsSomeAnd}
-use Rattle.std.proofs.lemmas.Bool.{cases_Bool, cases_eq, cases_lt, lt-ltb, eq-eqb, ne_eqb, eqb-true, eqb-false, or_cases, or_left, or_right, or_from}
-use Rattle.kn_base.specs.declared.key.Key.{Key}
-use Rattle.unix_model.specs.Tables.{at, count_below}
+use Rattle.std.proofs.Common.{◌≡◌, ◌≢◌, ◌<◌, ◌≤◌, ◌+◌, ◌^◌, ℕ, zero, suc, Bool, true, false, Option, Some, None, List, [], ◌∷◌, ◌++◌, refl, ap, sym, ◌∙◌, arith, if◌then◌else◌, ⊎_elim, ◌==◌, ◌⊎◌, inl, inr, ◌||◌, ◌↔◌}
+use Rattle.std.specs.Option.{is_some, IsSome}
+use Rattle.std.proofs.lemmas.Bool.{cases_Bool, cases_lt, eq-eqb, ne_eqb, eqb-true, eqb-false, or_cases, or_left, or_right}
+use Rattle.unix_model.specs.Tables.{count_below}
 use Rattle.forest.specs.Objects.{Object, PageObject, NodeObject, Owner, OfProcess, OfFile, named}
-use Rattle.forest.specs.Walks.{map_of, Mapping, mapping_of, page_way, key_at_page}
-use Rattle.forest.specs.Forest.{Forest, Sound, IsSpace, Rooted, Held, NoPageOutside, EndsAt}
-use Rattle.forest.specs.Labels.{IsIn, is_in, different, and_label, labels, TellsAlike, page_number, shared_page, IsProcessSpace, places_below, places_of, is_process}
+use Rattle.forest.specs.Walks.{map_of, Mapping, page_way, key_at_page}
+use Rattle.forest.specs.Forest.{Forest, Sound, IsSpace, Held, NoPageOutside}
+use Rattle.forest.specs.Labels.{IsIn, is_in, different, and_label, labels, TellsAlike, page_number, shared_page, places_below, places_of, is_process}
 use Rattle.forest.specs.Laws.{AlikeIsEquallyMany, TakenIsDifferent}
 use Rattle.forest.proofs.ExactLaws.{bit, count_same, count_changed}
 use Rattle.forest.proofs.OwnLaws.{found_at, mapped_named, way_of_page}

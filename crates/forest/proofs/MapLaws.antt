@@ -1,13 +1,13 @@
 -- Changes of keys that leave the maps of spaces as they are.
-use Rattle.std.proofs.Common.{◌≡◌, ◌≢◌, ◌<◌, ◌≤◌, ◌+◌, ◌*◌, ◌/◌, ◌%◌, ◌^◌, ℕ, zero, suc, Bool, true, false, Option, Some, None, List, [], ◌∷◌, refl, ap, sym, ◌∙◌, arith, if◌then◌else◌, ⊎_elim, nat_lt, ◌==◌}
+use Rattle.std.proofs.Common.{◌≡◌, ◌≢◌, ◌<◌, ◌+◌, ◌*◌, ◌/◌, ◌%◌, ◌^◌, ℕ, zero, suc, Bool, true, false, Some, None, List, [], ◌∷◌, refl, ap, sym, ◌∙◌, arith, if◌then◌else◌, ⊎_elim, nat_lt, ◌==◌}
 use Rattle.std.proofs.Math.Path.{fun_ext}
-use Rattle.std.proofs.lemmas.Bool.{cases_lt, cases_Bool, cases_eq, ltb-true, eq-eqb, ne_eqb}
+use Rattle.std.proofs.lemmas.Bool.{cases_Bool, cases_eq, ltb-true, eq-eqb, ne_eqb}
 use Rattle.kn_base.specs.declared.key.Key.{Key}
-use Rattle.kn_base.specs.declared.key.Key.TheVariants.{Null, Number, Page, Node, Segment, Start, Resume, Domain, Meter, Service}
+use Rattle.kn_base.specs.declared.key.Key.TheVariants.{Null, Page, Segment}
 use Rattle.unix_model.specs.Tables.{at, with_at}
 use Rattle.unix_model.proofs.TableLaws.{at-with_at, at-with_at-other}
 use Rattle.forest.specs.Objects.{Object, PageObject, NodeObject, named}
-use Rattle.forest.specs.Walks.{place_of, key_below, key_along, space_key, IsWay, digits, page_way, Mapping, mapping_of, map_of, key_at_page}
+use Rattle.forest.specs.Walks.{place_of, key_below, key_along, space_key, IsWay, digits, page_way, mapping_of, map_of, key_at_page}
 use Rattle.forest.specs.Forest.{NobodyNames}
 use Rattle.forest.specs.Changes.{filled, with_fresh}
 use Rattle.forest.specs.Laws.{FreshKeepsMaps, DetachKeepsMaps, ShareKeepsMaps, UnnamedKeepsMaps}

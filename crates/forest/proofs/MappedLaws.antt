@@ -1,9 +1,9 @@
 -- The number of mapped pages is the sum over the subtrees.
-use Rattle.std.proofs.Common.{◌≡◌, ◌≢◌, ◌<◌, ◌≤◌, ◌+◌, ◌-◌, ◌*◌, ◌/◌, ◌%◌, ◌^◌, ℕ, zero, suc, Bool, true, false, List, [], ◌∷◌, ◌++◌, refl, ap, sym, ◌∙◌, arith, if◌then◌else◌}
+use Rattle.std.proofs.Common.{◌≡◌, ◌<◌, ◌≤◌, ◌+◌, ◌*◌, ◌/◌, ◌%◌, ◌^◌, ℕ, zero, suc, Bool, List, [], ◌∷◌, ◌++◌, refl, ap, ◌∙◌, arith, if◌then◌else◌}
 use Rattle.std.specs.Option.{is_some}
 use Rattle.kn_base.specs.declared.key.Key.{Key}
-use Rattle.unix_model.specs.Tables.{at, count_below, sum_below}
-use Rattle.forest.specs.Walks.{place_of, key_below, key_along, space_key, digits, page_way, mapping_of, map_of, key_at_page}
+use Rattle.unix_model.specs.Tables.{count_below, sum_below}
+use Rattle.forest.specs.Walks.{key_below, key_along, space_key, digits, page_way, mapping_of, map_of}
 use Rattle.forest.specs.Mapped.{mapped, pages_below}
 use Rattle.forest.specs.Laws.{MappedIsSum}
 use Rattle.forest.proofs.ExactLaws.{count_same}

@@ -1,12 +1,11 @@
 -- Keys of nodes that belong to no tree are masked out.
-use Rattle.std.proofs.Common.{◌≡◌, ◌≢◌, ◌/◌, ℕ, Bool, true, false, Option, Some, None, refl, ap, sym, ◌∙◌, if◌then◌else◌, ⊎_elim, ◌==◌, ◌⊎◌}
-use Rattle.std.specs.Option.{is_some, IsSome}
+use Rattle.std.proofs.Common.{◌≡◌, ◌≢◌, ◌/◌, Bool, true, false, refl, sym, ◌∙◌, if◌then◌else◌, ⊎_elim}
+use Rattle.std.specs.Option.{is_some}
 use Rattle.std.proofs.Math.Path.{fun_ext}
-use Rattle.std.proofs.lemmas.Bool.{cases_Bool, cases_eq, eq-eqb, ne_eqb}
-use Rattle.kn_base.specs.declared.key.Key.{Key}
+use Rattle.std.proofs.lemmas.Bool.{cases_eq, eq-eqb, ne_eqb}
 use Rattle.kn_base.specs.declared.key.Key.TheVariants.{Null}
 use Rattle.unix_model.specs.Tables.{at, with_at}
-use Rattle.forest.specs.Objects.{Object, NodeObject, Owner, with_object}
+use Rattle.forest.specs.Objects.{NodeObject, with_object}
 use Rattle.forest.specs.Forest.{masked}
 use Rattle.forest.specs.Laws.{MaskedWrites, MaskedOwners}
 use Rattle.forest.proofs.HeldLaws.{other_object}

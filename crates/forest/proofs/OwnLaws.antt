@@ -1,16 +1,16 @@
 -- From stored counts to walks: what is counted once is named by one place alone, and so is reached on one way alone.
-use Rattle.std.proofs.Common.{◌≡◌, ◌≢◌, ◌<◌, ◌≤◌, ◌+◌, ◌*◌, ◌/◌, ◌%◌, ◌^◌, ℕ, zero, suc, Bool, true, false, Option, Some, None, List, [], ◌∷◌, refl, ap, sym, ◌∙◌, arith, if◌then◌else◌, ⊎_elim, nat_lt}
-use Rattle.std.specs.Option.{is_some, IsSome, IsSomeAnd}
-use Rattle.std.proofs.lemmas.Bool.{cases_lt, cases_order, cases_Bool, ltb-true, ltb-false, lt-ltb, eqb-true, eq-eqb, ne_eqb, eqb-false}
+use Rattle.std.proofs.Common.{◌≡◌, ◌≢◌, ◌<◌, ◌≤◌, ◌*◌, ◌/◌, ◌%◌, ◌^◌, ℕ, true, false, Option, Some, None, List, [], ◌∷◌, refl, ap, sym, ◌∙◌, arith, ⊎_elim, nat_lt}
+use Rattle.std.specs.Option.{is_some, IsSome}
+use Rattle.std.proofs.lemmas.Bool.{cases_order, cases_Bool, ltb-true, ne_eqb}
 use Rattle.kn_base.specs.declared.key.Key.{Key}
-use Rattle.kn_base.specs.declared.key.Key.TheVariants.{Null, Number, Page, Node, Segment, Start, Resume, Domain, Meter, Service}
-use Rattle.unix_model.specs.Tables.{at, count_below}
+use Rattle.kn_base.specs.declared.key.Key.TheVariants.{Null, Page}
+use Rattle.unix_model.specs.Tables.{at}
 use Rattle.forest.specs.Objects.{Object, PageObject, NodeObject, Owner, named, names}
-use Rattle.forest.specs.Walks.{place_of, key_below, key_along, space_key, IsWay, digits, page_way, Mapping, mapping_of, map_of, key_at_page}
-use Rattle.forest.specs.Forest.{Forest, Sound, Exact, IsSpace, NobodyNames, OwnWay, CountedOnce, EndsAt, namings}
+use Rattle.forest.specs.Walks.{key_along, space_key, IsWay, digits, page_way, Mapping, mapping_of, map_of, key_at_page}
+use Rattle.forest.specs.Forest.{Forest, Sound, Exact, OwnWay, CountedOnce, namings}
 use Rattle.forest.specs.Laws.{OwnIsAlone, OwnPageIsAlone}
 use Rattle.forest.proofs.WalkLaws.{Alone, AloneWay, central}
-use Rattle.forest.proofs.CountLaws.{true-names, counted_one, counted_two}
+use Rattle.forest.proofs.CountLaws.{true-names, counted_two}
 
 -- the node of a place at which something is named belongs to a tree
 pub owned_node : (forest : Forest) → Sound forest → (place : ℕ) (object : Object)

@@ -1,19 +1,17 @@
 -- Changes at the end of an own way: a key that is written, and a node that is copied.
-use Rattle.std.proofs.Common.{◌≡◌, ◌≢◌, ◌<◌, ◌≤◌, ◌+◌, ◌-◌, ◌*◌, ◌/◌, ◌%◌, ◌^◌, ℕ, zero, suc, Bool, true, false, Option, Some, None, List, [], ◌∷◌, length, refl, ap, sym, ◌∙◌, arith, if◌then◌else◌, ⊎_elim, nat_lt, ◌==◌}
-use Rattle.std.specs.Option.{is_some, IsSome, IsSomeAnd}
+use Rattle.std.proofs.Common.{◌≡◌, ◌≢◌, ◌<◌, ◌≤◌, ◌%◌, ◌^◌, ℕ, true, false, Option, Some, List, [], ◌∷◌, length, refl, ap, sym, ◌∙◌, arith, ⊎_elim, nat_lt}
 use Rattle.std.proofs.Math.Path.{fun_ext}
-use Rattle.std.proofs.lemmas.Bool.{cases_lt, cases_Bool, cases_eq, ltb-true, lt-ltb, eq-eqb, ne_eqb, eqb-true, eqb-false}
+use Rattle.std.proofs.lemmas.Bool.{cases_Bool, cases_eq, ltb-true, lt-ltb, eq-eqb, ne_eqb}
 use Rattle.kn_base.specs.declared.key.Key.{Key}
-use Rattle.kn_base.specs.declared.key.Key.TheVariants.{Null, Number, Page, Node, Segment, Start, Resume, Domain, Meter, Service}
-use Rattle.unix_model.specs.Tables.{at, with_at, count_below}
+use Rattle.kn_base.specs.declared.key.Key.TheVariants.{Segment}
+use Rattle.unix_model.specs.Tables.{with_at}
 use Rattle.unix_model.proofs.TableLaws.{at-with_at, at-with_at-other}
-use Rattle.forest.specs.Objects.{Object, PageObject, NodeObject, Owner, named, names, same_object, is_object, with_object}
+use Rattle.forest.specs.Objects.{Object, NodeObject, named}
 use Rattle.forest.specs.Walks.{place_of, key_below, key_along, space_key, IsWay, digits, page_way, Mapping, mapping_of, map_of, key_at_page}
-use Rattle.forest.specs.Forest.{Forest, Sound, Exact, IsSpace, NobodyNames, OwnWay, CountedOnce, EndsAt, node_way}
-use Rattle.forest.specs.Changes.{filled, with_fresh, with_copy, copied_count, IsFree}
-use Rattle.forest.specs.Laws.{WriteChangesOneMap, CopyMakesOwn}
-use Rattle.forest.proofs.WalkLaws.{AloneWay, central, step}
-use Rattle.forest.proofs.OwnLaws.{alone_way, own_is_alone, owned_object, way_of_page, same_page}
+use Rattle.forest.specs.Forest.{Forest, Sound, Exact, IsSpace, NobodyNames, OwnWay, EndsAt, node_way}
+use Rattle.forest.specs.Laws.{WriteChangesOneMap}
+use Rattle.forest.proofs.WalkLaws.{AloneWay, central}
+use Rattle.forest.proofs.OwnLaws.{alone_way, way_of_page, same_page}
 use Rattle.forest.proofs.MapLaws.{node_key, same_map}
 
 -- a key written at a place that isn't stepped on

@@ -1,6 +1,5 @@
 -- Pruning a node that has become empty.
-use Rattle.std.proofs.Common.{◌≡◌, ◌≢◌, ◌<◌, ◌+◌, ◌*◌, ◌/◌, ◌%◌, ℕ, Option, Some, None, List, [], ◌∷◌, refl, ap, sym, ◌∙◌, arith, ⊎_elim, ◌⊎◌}
-use Rattle.std.specs.Option.{is_some, IsSome}
+use Rattle.std.proofs.Common.{◌≡◌, ◌≢◌, ◌<◌, ◌/◌, ◌%◌, ℕ, Some, None, List, ◌∷◌, ap, ◌∙◌, arith, ⊎_elim}
 use Rattle.std.proofs.lemmas.Bool.{cases_eq}
 use Rattle.kn_base.specs.declared.key.Key.{Key}
 use Rattle.kn_base.specs.declared.key.Key.TheVariants.{Null}
@@ -8,8 +7,8 @@ use Rattle.unix_model.specs.Tables.{at, with_at}
 use Rattle.unix_model.proofs.TableLaws.{at-with_at, at-with_at-other}
 use Rattle.forest.specs.Objects.{Object, NodeObject, named}
 use Rattle.forest.specs.Walks.{place_of}
-use Rattle.forest.specs.Forest.{Forest, Held, IsSpace, in_hand}
-use Rattle.forest.specs.Changes.{with_key, with_given, MayStand, BelongsAt}
+use Rattle.forest.specs.Forest.{Forest, Held, IsSpace}
+use Rattle.forest.specs.Changes.{with_key, with_given, MayStand}
 use Rattle.forest.specs.Release.{Release, empty_node, done, more}
 use Rattle.forest.specs.Laws.{PruneKeepsMaps}
 use Rattle.forest.proofs.ExactLaws.{not_named}

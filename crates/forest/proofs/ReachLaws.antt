@@ -1,21 +1,21 @@
 -- Whatever is counted is reached: climbing from a place to the root above it.
-use Rattle.std.proofs.Common.{◌≡◌, ◌≢◌, ◌<◌, ◌≤◌, ◌+◌, ◌-◌, ◌*◌, ◌/◌, ◌%◌, ◌^◌, ℕ, zero, suc, Bool, true, false, Option, Some, None, List, [], ◌∷◌, length, refl, ap, sym, ◌∙◌, arith, if◌then◌else◌, ⊎_elim, nat_lt, ◌==◌, ◌⊎◌, inl, inr}
-use Rattle.std.specs.Option.{is_some, IsSome, IsSomeAnd}
-use Rattle.std.proofs.lemmas.Bool.{cases_Bool, cases_eq, cases_lt, lt-ltb, ne_eqb, eqb-true}
+use Rattle.std.proofs.Common.{◌≡◌, ◌<◌, ◌≤◌, ◌+◌, ◌*◌, ◌/◌, ◌%◌, ◌^◌, ℕ, zero, suc, Bool, true, false, Some, None, List, [], ◌∷◌, length, refl, ap, sym, ◌∙◌, arith, if◌then◌else◌, ⊎_elim, ◌==◌}
+use Rattle.std.specs.Option.{IsSome}
+use Rattle.std.proofs.lemmas.Bool.{cases_Bool, cases_lt, lt-ltb}
 use Rattle.kn_base.specs.declared.key.Key.{Key}
-use Rattle.kn_base.specs.declared.key.Key.TheVariants.{Null, Number, Page, Node, Segment, Start, Resume, Domain, Meter, Service}
-use Rattle.unix_model.specs.Tables.{at, with_at, count_below}
-use Rattle.forest.specs.Objects.{Object, PageObject, NodeObject, Owner, named, names}
-use Rattle.forest.specs.Walks.{place_of, key_below, key_along, space_key, IsWay, digits, page_way, Mapping, mapping_of, map_of, key_at_page}
-use Rattle.forest.specs.Forest.{Forest, Sound, Exact, IsSpace, IsRoot, Rooted, NobodyNames, FitsBelow, FitsUnder, key_height, EndsAt, in_hand, namings, Held, top_digit, NoPageOutside}
-use Rattle.forest.specs.Labels.{page_number, shared_page}
+use Rattle.kn_base.specs.declared.key.Key.TheVariants.{Null, Page, Segment}
+use Rattle.unix_model.specs.Tables.{at, count_below}
+use Rattle.forest.specs.Objects.{Object, PageObject, NodeObject, named, names}
+use Rattle.forest.specs.Walks.{place_of, key_below, key_along, space_key, IsWay, digits, page_way, mapping_of, map_of, key_at_page}
+use Rattle.forest.specs.Forest.{Forest, Sound, IsSpace, IsRoot, Rooted, NobodyNames, FitsBelow, FitsUnder, key_height, EndsAt, in_hand, namings, Held, top_digit, NoPageOutside}
+use Rattle.forest.specs.Labels.{page_number}
 use Rattle.forest.specs.Laws.{EverythingIsReached, EveryPageIsMapped}
 use Rattle.forest.proofs.CountLaws.{names-true}
 use Rattle.forest.proofs.WalkLaws.{step}
 use Rattle.forest.proofs.ExactLaws.{nobody_counted}
-use Rattle.forest.proofs.OwnLaws.{owned_object, owned_node, way_of_page}
+use Rattle.forest.proofs.OwnLaws.{owned_node}
 use Rattle.forest.proofs.MapLaws.{node_key}
-use Rattle.forest.proofs.ReleaseLaws.{release_goes_down, unnamed, none_or_some, some_not_none}
+use Rattle.forest.proofs.ReleaseLaws.{release_goes_down, unnamed}
 
 -- a number that the test holds of
 record Witness (test : ℕ → Bool) (n : ℕ) : Type 0 where

@@ -1,21 +1,20 @@
 -- Releasing keys.
-use Rattle.std.proofs.Common.{◌≡◌, ◌≢◌, ◌<◌, ◌≤◌, ◌+◌, ◌-◌, ◌*◌, ◌/◌, ◌%◌, ◌^◌, ℕ, zero, suc, Bool, true, false, Option, Some, None, List, [], ◌∷◌, length, refl, ap, sym, ◌∙◌, arith, if◌then◌else◌, ⊎_elim, nat_lt, ◌==◌, ◌⊎◌, inl, inr}
-use Rattle.std.specs.Option.{is_some, IsSome, IsSomeAnd}
+use Rattle.std.proofs.Common.{◌≡◌, ◌≢◌, ◌<◌, ◌≤◌, ◌+◌, ◌-◌, ◌*◌, ◌/◌, ◌%◌, ℕ, true, false, Option, Some, None, List, [], ◌∷◌, refl, ap, sym, ◌∙◌, arith, ⊎_elim, ◌⊎◌, inl, inr}
+use Rattle.std.specs.Option.{is_some, IsSome}
 use Rattle.std.proofs.lemmas.Bool.{cases_Bool, cases_eq}
 use Rattle.kn_base.specs.declared.key.Key.{Key}
-use Rattle.kn_base.specs.declared.key.Key.TheVariants.{Null, Number, Page, Node, Segment, Start, Resume, Domain, Meter, Service}
-use Rattle.unix_model.specs.Tables.{at, with_at, count_below}
+use Rattle.kn_base.specs.declared.key.Key.TheVariants.{Null, Page, Segment}
+use Rattle.unix_model.specs.Tables.{at, with_at}
 use Rattle.unix_model.proofs.TableLaws.{at-with_at, at-with_at-other}
 use Rattle.forest.specs.Objects.{Object, PageObject, NodeObject, Owner, named, names, same_object, is_object, with_object}
-use Rattle.forest.specs.Walks.{place_of, key_below, key_along, space_key, IsWay, page_way, mapping_of, map_of, key_at_page}
-use Rattle.forest.specs.Forest.{Forest, Sound, Exact, IsSpace, NobodyNames, FitsBelow, FitsUnder, key_height, in_hand, namings, IsRoot, Rooted, Counted, Held}
-use Rattle.forest.specs.Changes.{with_count, with_key, lowered, counted_less, with_given}
+use Rattle.forest.specs.Walks.{place_of, key_below, key_along, space_key, IsWay, page_way, mapping_of}
+use Rattle.forest.specs.Forest.{Forest, Sound, IsSpace, NobodyNames, FitsBelow, FitsUnder, key_height, in_hand, namings, IsRoot, Counted, Held}
+use Rattle.forest.specs.Changes.{with_count, with_key, counted_less, with_given}
 use Rattle.forest.specs.Release.{ReleaseStep, nothing, shared, page, take_out, empty_node, Release, done, more}
 use Rattle.forest.specs.Laws.{ReleaseKeepsSpaces, ReleaseGivesUnnamed, ReleaseGoesDown}
-use Rattle.forest.proofs.CountLaws.{same_object-same, same_object-true, names-true, true-names, counted_one}
-use Rattle.forest.proofs.WalkLaws.{step}
-use Rattle.forest.proofs.OwnLaws.{owned_object, owned_node, place_within, way_of_page}
-use Rattle.forest.proofs.ExactLaws.{bit, not_named, in_hand-cons, lower, write, give, less-same, count-less, nobody_counted, with_object-here, spaces_back}
+use Rattle.forest.proofs.CountLaws.{same_object-same, same_object-true, true-names, counted_one}
+use Rattle.forest.proofs.OwnLaws.{owned_object, place_within, way_of_page}
+use Rattle.forest.proofs.ExactLaws.{bit, not_named, in_hand-cons, lower, write, nobody_counted, with_object-here, spaces_back}
 use Rattle.forest.proofs.MapLaws.{same_map, stays_off, not_the_node}
 use Rattle.forest.proofs.OwnMaps.{below_write}
 

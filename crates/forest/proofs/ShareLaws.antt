@@ -1,13 +1,13 @@
 -- Copying a key to a fresh root.
-use Rattle.std.proofs.Common.{◌≡◌, ◌≢◌, ◌<◌, ◌≤◌, ◌+◌, ◌*◌, ◌/◌, ◌%◌, ℕ, true, false, Option, Some, None, List, [], ◌∷◌, refl, ap, sym, ◌∙◌, arith, ⊎_elim, ◌⊎◌}
-use Rattle.std.specs.Option.{is_some, IsSome}
+use Rattle.std.proofs.Common.{◌≡◌, ◌<◌, ◌≤◌, ◌/◌, ℕ, Option, Some, None, List, ◌∷◌, refl, ap, sym, ◌∙◌, arith, ⊎_elim}
+use Rattle.std.specs.Option.{IsSome}
 use Rattle.std.proofs.lemmas.Bool.{cases_lt}
 use Rattle.kn_base.specs.declared.key.Key.{Key}
 use Rattle.kn_base.specs.declared.key.Key.TheVariants.{Null}
 use Rattle.unix_model.specs.Tables.{at}
 use Rattle.forest.specs.Objects.{Object, NodeObject, named}
-use Rattle.forest.specs.Walks.{place_of, key_below}
-use Rattle.forest.specs.Forest.{Forest, Held, IsSpace, NobodyNames, FitsBelow, in_hand}
+use Rattle.forest.specs.Walks.{place_of}
+use Rattle.forest.specs.Forest.{Forest, Held, NobodyNames, in_hand}
 use Rattle.forest.specs.Changes.{raised, counted_more, with_key, MayStand, BelongsAt}
 use Rattle.forest.specs.Laws.{ShareKeepsHeld}
 use Rattle.forest.proofs.ExactLaws.{in_hand-cons}

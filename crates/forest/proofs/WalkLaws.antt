@@ -1,10 +1,10 @@
 -- Walks in keys, without counts: what is named by one place alone is reached on one way alone.
-use Rattle.std.proofs.Common.{◌≡◌, ◌≢◌, ◌<◌, ◌+◌, ◌*◌, ℕ, Option, Some, None, List, [], ◌∷◌, refl, ap, sym, ◌∙◌, arith}
+use Rattle.std.proofs.Common.{◌≡◌, ℕ, Some, List, [], ◌∷◌, refl, ap, sym, ◌∙◌, arith}
 use Rattle.std.specs.Bool.{⊤}
 use Rattle.kn_base.specs.declared.key.Key.{Key}
-use Rattle.kn_base.specs.declared.key.Key.TheVariants.{Null, Number, Page, Node, Segment, Start, Resume, Domain, Meter, Service}
+use Rattle.kn_base.specs.declared.key.Key.TheVariants.{Segment}
 use Rattle.unix_model.specs.Tables.{at}
-use Rattle.forest.specs.Objects.{Object, PageObject, NodeObject, named}
+use Rattle.forest.specs.Objects.{Object, NodeObject, named}
 use Rattle.forest.specs.Walks.{place_of, key_below, key_along, space_key, IsWay}
 use Rattle.forest.specs.Forest.{NobodyNames, EndsAt}
 

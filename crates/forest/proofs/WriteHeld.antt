@@ -1,23 +1,18 @@
 -- A key that is written where it may stand.
-use Rattle.std.proofs.Common.{◌≡◌, ◌≢◌, ◌<◌, ◌≤◌, ◌+◌, ◌-◌, ◌*◌, ◌/◌, ◌%◌, ◌^◌, ℕ, zero, suc, Bool, true, false, Option, Some, None, List, [], ◌∷◌, refl, ap, sym, ◌∙◌, arith, if◌then◌else◌, ⊎_elim, nat_lt, ◌==◌, ◌⊎◌, inl, inr}
-use Rattle.std.specs.Option.{is_some, IsSome}
-use Rattle.std.proofs.lemmas.Bool.{cases_Bool, cases_eq, cases_lt}
+use Rattle.std.proofs.Common.{◌≡◌, ◌≢◌, ◌<◌, ◌≤◌, ◌/◌, ◌%◌, ℕ, Some, None, List, ◌∷◌, ap, sym, ◌∙◌, arith, ⊎_elim}
+use Rattle.std.proofs.lemmas.Bool.{cases_eq}
 use Rattle.kn_base.specs.declared.key.Key.{Key}
-use Rattle.kn_base.specs.declared.key.Key.TheVariants.{Null, Number, Page, Node, Segment, Start, Resume, Domain, Meter, Service}
-use Rattle.unix_model.specs.Tables.{at, with_at, count_below}
+use Rattle.kn_base.specs.declared.key.Key.TheVariants.{Null, Segment}
+use Rattle.unix_model.specs.Tables.{at, with_at}
 use Rattle.unix_model.proofs.TableLaws.{at-with_at, at-with_at-other}
-use Rattle.forest.specs.Objects.{Object, PageObject, NodeObject, Owner, named, names, same_object, is_object, with_object}
-use Rattle.forest.specs.Walks.{place_of, key_below, key_along, space_key, IsWay}
-use Rattle.forest.specs.Forest.{Forest, Sound, Exact, IsSpace, IsRoot, Rooted, NobodyNames, FitsBelow, FitsUnder, key_height, in_hand, namings, Counted, Held}
-use Rattle.forest.specs.Changes.{with_count, with_key, raised, counted_more, with_taken, and_outside, filled, with_fresh, with_copy, copied_count, IsFree, MayStand, BelongsAt}
+use Rattle.forest.specs.Objects.{Object, NodeObject, named}
+use Rattle.forest.specs.Walks.{place_of, key_below}
+use Rattle.forest.specs.Forest.{Forest, Sound, IsRoot, NobodyNames, FitsBelow, FitsUnder, key_height, in_hand, Counted}
+use Rattle.forest.specs.Changes.{with_key, MayStand, BelongsAt}
 use Rattle.forest.specs.Laws.{WriteKeepsHeld}
-use Rattle.forest.proofs.CountLaws.{same_object-same, same_object-true, names-true, true-names, counted_one}
-use Rattle.forest.proofs.WalkLaws.{step}
-use Rattle.forest.proofs.OwnLaws.{owned_object, owned_node, place_within}
-use Rattle.forest.proofs.ExactLaws.{bit, not_named, in_hand-cons, raise, write, take, hand_out, hand_in, count-more, more-same, nobody_counted, with_object-here}
-use Rattle.forest.proofs.MapLaws.{node_key}
-use Rattle.forest.proofs.CopyLaws.{free_unnamed}
-use Rattle.forest.proofs.ReleaseLaws.{some_not_none, none_or_some, is_or_not, no_name, last_key, front, tail_hand, fits_null}
+use Rattle.forest.proofs.OwnLaws.{owned_object}
+use Rattle.forest.proofs.ExactLaws.{not_named, write}
+use Rattle.forest.proofs.ReleaseLaws.{some_not_none, no_name, front, tail_hand}
 use Rattle.forest.proofs.ExactLaws.{spaces_back}
 
 -- what stands at a place after a key was written

@@ -1,10 +1,10 @@
 -- Changes of a forest: counts, owners and keys, one at a time, and what is made of them.
-use Rattle.std.specs.Prelude.{◌≡◌, ◌≢◌, ◌<◌, ◌+◌, ◌-◌, ◌/◌, ◌%◌, ℕ, Bool, ◌==◌, if◌then◌else◌, Option, Some, None, IsSome, List}
+use Rattle.std.specs.Prelude.{◌≡◌, ◌≢◌, ◌<◌, ◌+◌, ◌-◌, ◌/◌, ◌%◌, ℕ, ◌==◌, if◌then◌else◌, Option, Some, None, IsSome, List}
 use Rattle.kn_base.specs.declared.key.Key.{Key}
-use Rattle.kn_base.specs.declared.key.Key.TheVariants.{Null, Number, Page, Node, Segment, Start, Resume, Domain, Meter, Service}
+use Rattle.kn_base.specs.declared.key.Key.TheVariants.{Segment}
 use Rattle.unix_model.specs.Tables.{at, with_at, count_below}
-use Rattle.forest.specs.Objects.{Object, PageObject, NodeObject, Owner, named, names, with_object}
-use Rattle.forest.specs.Walks.{place_of, key_below}
+use Rattle.forest.specs.Objects.{Object, NodeObject, Owner, named, names, with_object}
+use Rattle.forest.specs.Walks.{key_below}
 use Rattle.forest.specs.Forest.{Forest, in_hand, IsSpace, FitsBelow, FitsUnder, key_height}
 
 -- the forest with another stored count of an object

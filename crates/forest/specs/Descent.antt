@@ -1,5 +1,5 @@
 -- Going down a way, level by level, and making it a space's own.
-use Rattle.std.specs.Prelude.{◌≡◌, ◌<◌, ◌+◌, ◌-◌, ℕ, List, [], ◌∷◌, length}
+use Rattle.std.specs.Prelude.{◌<◌, ◌+◌, ◌-◌, ℕ, List, [], ◌∷◌, length}
 use Rattle.kn_base.specs.declared.key.Key.{Key}
 use Rattle.forest.specs.Objects.{Object, NodeObject, Owner}
 use Rattle.forest.specs.Walks.{place_of, key_along, space_key}

@@ -1,10 +1,10 @@
 -- A small forest that meets the premises of the laws: two spaces that share a subtree, with a page that both map, and a
 -- page and a blank that the first one maps alone. It is made from nothing, step by step, as the kernel would.
-use Rattle.std.specs.Prelude.{◌≡◌, ◌≤◌, ◌+◌, ℕ, Bool, true, false, Option, Some, None, List, [], ◌∷◌}
+use Rattle.std.specs.Prelude.{◌≡◌, ◌≤◌, ◌+◌, ℕ, true, false, Some, None, [], ◌∷◌}
 use Rattle.kn_base.specs.declared.key.Key.{Key}
 use Rattle.kn_base.specs.declared.key.Key.TheVariants.{Null, Page, Segment}
 use Rattle.unix_model.specs.Tables.{with_at}
-use Rattle.forest.specs.Objects.{Object, PageObject, NodeObject, Owner, OfProcess}
+use Rattle.forest.specs.Objects.{Object, PageObject, NodeObject, OfProcess}
 use Rattle.forest.specs.Walks.{space_key, key_below, page_way, Mapping, map_of}
 use Rattle.forest.specs.Forest.{Forest, Held, IsSpace, OwnWay, namings, in_hand}
 use Rattle.forest.specs.Changes.{raised, with_count, with_key, with_taken, with_given, with_copy, filled, and_outside}

@@ -1,12 +1,12 @@
 -- A forest: the nodes and pages that belong to trees, with what names them. Several trees may share what stands below
 -- their roots.
-use Rattle.std.specs.Prelude.{◌≡◌, ◌≢◌, ◌<◌, ◌≤◌, ◌+◌, ◌*◌, ◌/◌, ℕ, zero, suc, Bool, true, false, ◌&&◌, ◌==◌, if◌then◌else◌, Option, Some, None, IsSome, IsSomeAnd, is_some, List, [], ◌∷◌, ⊤}
+use Rattle.std.specs.Prelude.{◌≡◌, ◌≢◌, ◌<◌, ◌≤◌, ◌+◌, ◌*◌, ◌/◌, ℕ, if◌then◌else◌, Option, Some, None, IsSome, IsSomeAnd, is_some, List, [], ◌∷◌, ⊤}
 use Rattle.std.specs.List.{count_by}
 use Rattle.kn_base.specs.declared.key.Key.{Key}
-use Rattle.kn_base.specs.declared.key.Key.TheVariants.{Null, Number, Page, Node, Segment, Start, Resume, Domain, Meter, Service}
+use Rattle.kn_base.specs.declared.key.Key.TheVariants.{Null, Page, Segment}
 use Rattle.unix_model.specs.Tables.{at, count_below}
 use Rattle.forest.specs.Objects.{Object, PageObject, NodeObject, Owner, named, names}
-use Rattle.forest.specs.Walks.{place_of, key_below, key_along, space_key, IsWay, digits}
+use Rattle.forest.specs.Walks.{place_of, key_below, key_along, space_key, digits}
 
 -- The number of nodes of the store, the keys of those nodes that belong to trees, the owner of each object that belongs to
 -- one, and how often each object is stored to be named.

@@ -1,10 +1,10 @@
 -- The laws of shared trees, each as one statement.
 use Rattle.std.specs.Prelude.{◌≡◌, ◌≢◌, ◌<◌, ◌≤◌, ◌↔◌, ◌*◌, ◌/◌, ◌%◌, ◌^◌, ◌+◌, ℕ, Option, Some, None, IsSome, List, [], ◌∷◌, length}
 use Rattle.kn_base.specs.declared.key.Key.{Key}
-use Rattle.kn_base.specs.declared.key.Key.TheVariants.{Null, Number, Page, Node, Segment, Start, Resume, Domain, Meter, Service}
+use Rattle.kn_base.specs.declared.key.Key.TheVariants.{Null, Segment}
 use Rattle.unix_model.specs.Tables.{at, with_at, count_below, sum_below}
 use Rattle.forest.specs.Objects.{Object, PageObject, NodeObject, Owner, named, with_object}
-use Rattle.forest.specs.Walks.{key_along, key_below, space_key, IsWay, page_way, Mapping, mapping_of, map_of, place_of}
+use Rattle.forest.specs.Walks.{key_below, IsWay, page_way, Mapping, mapping_of, map_of, place_of}
 use Rattle.forest.specs.Forest.{Forest, Exact, Sound, IsSpace, OwnWay, CountedOnce, EndsAt, NobodyNames, in_hand, namings, node_way, FitsBelow, FitsUnder, key_height, IsRoot, masked, Held, NoPageOutside, top_digit}
 use Rattle.forest.specs.Changes.{raised, lowered, with_key, with_taken, with_given, and_outside, filled, with_fresh, with_copy, IsFree, MayStand, BelongsAt}
 use Rattle.forest.specs.Descent.{MadeOwn}

@@ -1,11 +1,11 @@
 -- Releasing keys: each step looks at the first key in hand.
-use Rattle.std.specs.Prelude.{◌≡◌, ◌<◌, ◌≤◌, ◌+◌, ◌-◌, ◌↔◌, ℕ, Option, Some, None, IsSome, List, [], ◌∷◌}
+use Rattle.std.specs.Prelude.{◌≡◌, ◌<◌, ◌≤◌, ◌-◌, ℕ, Some, None, List, ◌∷◌}
 use Rattle.kn_base.specs.declared.key.Key.{Key}
-use Rattle.kn_base.specs.declared.key.Key.TheVariants.{Null, Number, Page, Node, Segment, Start, Resume, Domain, Meter, Service}
+use Rattle.kn_base.specs.declared.key.Key.TheVariants.{Null}
 use Rattle.unix_model.specs.Tables.{at}
 use Rattle.forest.specs.Objects.{Object, PageObject, NodeObject, named}
 use Rattle.forest.specs.Walks.{place_of}
-use Rattle.forest.specs.Forest.{Forest, Sound, Exact, in_hand, namings}
+use Rattle.forest.specs.Forest.{Forest}
 use Rattle.forest.specs.Changes.{with_count, with_key, with_given}
 
 -- One step of releasing the first key in hand. A key that names nothing goes. Where what it names is counted more than

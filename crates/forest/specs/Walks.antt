@@ -1,11 +1,9 @@
 -- Walks in trees. Keys are a table: key k of node n stands at place 16 * n + k. A way is the list of the digits that a
 -- walk takes, the LOWEST digit first, so the head of the list is the last step.
-use Rattle.std.specs.Prelude.{◌≡◌, ◌<◌, ◌+◌, ◌*◌, ◌/◌, ◌%◌, ◌^◌, ℕ, zero, suc, Bool, if◌then◌else◌, Option, Some, None, List, [], ◌∷◌, ⊤, nat_lt}
+use Rattle.std.specs.Prelude.{◌<◌, ◌+◌, ◌*◌, ◌/◌, ◌%◌, ◌^◌, ℕ, zero, suc, Bool, if◌then◌else◌, Option, Some, None, List, [], ◌∷◌, ⊤, nat_lt}
 use Rattle.kn_base.specs.declared.key.Key.{Key}
-use Rattle.kn_base.specs.declared.key.Key.TheVariants.{Null, Number, Page, Node, Segment, Start, Resume, Domain, Meter, Service}
-use Rattle.kn_base.specs.declared.key.NodeId.{NodeId}
+use Rattle.kn_base.specs.declared.key.Key.TheVariants.{Null, Page, Segment}
 use Rattle.unix_model.specs.Tables.{at}
-use Rattle.forest.specs.Objects.{Object, PageObject, NodeObject, named}
 
 -- the place of a key of a node
 abbrev pub place_of : ℕ → ℕ → ℕ
