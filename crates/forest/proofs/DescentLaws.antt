@@ -2,10 +2,12 @@
 use Rattle.std.proofs.Common.{◌≡◌, ◌≢◌, ◌<◌, ◌≤◌, ◌+◌, ◌-◌, ◌/◌, ◌%◌, ◌^◌, ℕ, suc, Some, None, List, [], ◌∷◌, length, refl, ap, sym, ◌∙◌, arith, ⊎_elim, ◌↔◌, ◌==◌}
 use Rattle.std.specs.Option.{is_some, IsSome}
 use Rattle.std.proofs.Math.Path.{subst}
-use Rattle.std.proofs.lemmas.Bool.{cases_lt}
+use Rattle.std.proofs.lemmas.Bool.{cases_lt, cases_eq}
 use Rattle.kn_base.specs.declared.key.Key.{Key}
 use Rattle.kn_base.specs.declared.key.Key.TheVariants.{Page, Segment}
 use Rattle.unix_model.specs.Tables.{at, with_at}
+use Rattle.unix_model.proofs.TableLaws.{at-with_at, at-with_at-other}
+use Rattle.forest.proofs.ExactLaws.{not_named}
 use Rattle.forest.specs.Objects.{Object, NodeObject, Owner, named}
 use Rattle.forest.specs.Walks.{place_of, key_below, key_along, space_key, IsWay, mapping_of, map_of, digits}
 use Rattle.forest.specs.Forest.{Forest, IsSpace, OwnWay, CountedOnce, EndsAt, FitsBelow, FitsUnder, key_height, Held, top_digit, node_way}
@@ -18,7 +20,7 @@ use Rattle.forest.proofs.MapLaws.{node_key, fresh_keeps_maps, page_no_node}
 use Rattle.forest.proofs.OwnMaps.{way_of_node, length-node_way, page_way-parts, OwnEnd, own_end, short_way, this_way, write_changes_one_map}
 use Rattle.forest.proofs.WriteHeld.{write_keeps_held}
 use Rattle.forest.proofs.CopyLaws.{free_unnamed, end_owned, counted_once, once, copy_makes_own}
-use Rattle.forest.proofs.ReleaseLaws.{some_not_none}
+use Rattle.forest.proofs.ReleaseLaws.{some_not_none, no_name, tail_hand}
 use Rattle.forest.proofs.ReachLaws.{way_height, way_owner}
 use Rattle.forest.proofs.HeldLaws.{other_object}
 use Rattle.forest.proofs.CopyHeld.{copy_keeps_held}
@@ -242,7 +244,7 @@ leaf_low : (key : Key) → FitsUnder 1 key → key_height key < 5
 leaf_low (Segment node height) fits = let next = fits.1 in omega arith
 leaf_low _ fits = omega arith
 
-leaf_names_page : (key : Key) (node : ℕ) → FitsUnder 1 key → named key ≢ Some (NodeObject node)
+pub leaf_names_page : (key : Key) (node : ℕ) → FitsUnder 1 key → named key ≢ Some (NodeObject node)
 leaf_names_page (Segment n height) node fits h = let next = fits.1 in let positive = fits.0 in absurd (omega arith)
 leaf_names_page (Page p w) node fits h = page_no_node p.0 node (p.0 == 0) h
 leaf_names_page _ node fits h = cc
@@ -293,6 +295,21 @@ leaf_below : (keys : ℕ → Key) (key : Key) (digit : ℕ) → FitsUnder 1 key 
 leaf_below keys (Segment n height) digit fits = let next = fits.1 in let positive = fits.0 in absurd (omega arith)
 leaf_below keys _ digit fits = tt
 
+-- a space stays one where a key that names no node is written
+space_written : (forest : Forest) (hand : List Key) (place : ℕ) (key : Key) → FitsUnder 1 key → (space : ℕ)
+    → IsSpace forest (key ∷ hand) space → IsSpace (with_key forest place key) (at forest.keys place ∷ hand) space
+space_written forest hand place key fits space is = record {
+  owned = is.owned;
+  unnamed = λ p. ⊎_elim
+      (λ (t : p ≡ place) (h : named (at (with_at forest.keys place key) p) ≡ Some (NodeObject space)).
+      leaf_names_page key space fits (ap named (sym (at-with_at forest.keys place key)) ∙ ap (λ q. named (at (with_at forest.keys place key) q)) (sym t) ∙ h))
+      (λ (t : p ≢ place) (h : named (at (with_at forest.keys place key) p) ≡ Some (NodeObject space)).
+      is.unnamed p (ap named (sym (at-with_at-other forest.keys place p key t)) ∙ h))
+      (cases_eq p place);
+  not_in_hand = no_name (at forest.keys place) hand (NodeObject space) (not_named (at forest.keys place) (NodeObject space) (is.unnamed place))
+      ∙ tail_hand key hand (NodeObject space) is.not_in_hand;
+}
+
 pub changes_one_page : ChangesOnePage
 changes_one_page outside hand space owner first last page node key taken held is_space space_owner below fits key_owner made ends =
     let four = length-node_way page in
@@ -313,6 +330,7 @@ changes_one_page outside hand space owner first last page node key taken held is
       write_keeps_held last outside hand (place_of node (page % 16)) key d.end.held may belongs,
       one.0 ∙ ap (λ map. with_at map page (mapping_of key)) (d.maps space is_space),
       λ other is apart. one.1 other ((d.spaces other).0 is) apart ∙ d.maps other is,
+      λ other is. space_written last hand (place_of node (page % 16)) key fits other ((d.spaces other).0 is),
       omega arith,
       λ counted.
           let o = once last key counted in

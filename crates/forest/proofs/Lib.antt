@@ -15,6 +15,7 @@ pub mod CopyHeld
 pub mod DescentLaws
 pub mod PruneLaws
 pub mod ShareLaws
+pub mod CallLaws
 pub mod MaskLaws
 pub mod ExampleLaws
 pub mod ExampleShows

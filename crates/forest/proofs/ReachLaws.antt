@@ -55,7 +55,7 @@ pub record Reached (forest : Forest) (object : Object) : Type 0 where
   pub is_way : IsWay way
   pub ends : EndsAt forest.keys space way object
 
-nothing_in_hand : (object : Object) → in_hand [] object ≡ 0
+pub nothing_in_hand : (object : Object) → in_hand [] object ≡ 0
 unfolding in_hand
 nothing_in_hand object = refl
 

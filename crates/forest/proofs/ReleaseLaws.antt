@@ -81,6 +81,7 @@ record StepKeeps (old new : Forest) (outside : Object → ℕ) (old_hand new_han
       → key_along new.keys (space_key space) way ≡ key_along old.keys (space_key space) way
   lost : (object : Object) → IsSome (old.owner object) → new.owner object ≡ None → outside object ≡ 0
   never : (object : Object) → old.owner object ≡ None → new.owner object ≡ None
+  unnamed : (object : Object) → NobodyNames old.keys object → NobodyNames new.keys object
 
 pub tail_hand : (key : Key) (hand : List Key) (object : Object) → in_hand (key ∷ hand) object ≡ 0 → in_hand hand object ≡ 0
 tail_hand key hand object e = let cons = in_hand-cons key hand object in omega arith
@@ -120,6 +121,7 @@ nothing_keeps forest outside key hand held none = record {
   keys = λ space is way w. refl;
   lost = λ object some none. absurd (some_not_none (forest.owner object) some none);
   never = λ object none. none;
+  unnamed = λ object nobody. nobody;
 }
 
 shared_keeps : (forest : Forest) (outside : Object → ℕ) (key : Key) (hand : List Key) (object : Object) → Counted forest outside (key ∷ hand)
@@ -141,6 +143,7 @@ shared_keeps forest outside key hand object held e two = record {
   keys = λ space is way w. refl;
   lost = λ other some none. absurd (some_not_none (forest.owner other) some none);
   never = λ other none. none;
+  unnamed = λ other nobody. nobody;
 }
 
 same_owner : (forest : Forest) (object other : Object) → other ≢ object → (with_given forest object).owner other ≡ forest.owner other
@@ -230,6 +233,7 @@ given_keeps forest outside key hand object held e once empty =
           (λ (t : other ≡ object). ap outside t ∙ last.none_outside)
           (λ (t : other ≢ object). absurd (some_not_none (forest.owner other) some (sym (same_owner forest object other t) ∙ none)))
           (is_or_not other object);
+      unnamed = λ other nobody. nobody;
       never = λ other none. ⊎_elim
           (λ (t : other ≡ object). ap (with_given forest object).owner t ∙ none_now)
           (λ (t : other ≢ object). same_owner forest object other t ∙ none)
@@ -324,6 +328,7 @@ take_out_keeps forest outside key hand node digit held e once below =
           omega arith) way w;
       lost = λ object some none. absurd (some_not_none (forest.owner object) some none);
       never = λ object none. none;
+      unnamed = λ object nobody p h. nobody p (taken_named forest.keys (place_of node digit) p object h);
     }
 
 step_keeps : (old new : Forest) (outside : Object → ℕ) (old_hand new_hand : List Key) → ReleaseStep old old_hand new new_hand → Counted old outside old_hand
@@ -349,6 +354,7 @@ keeps_all old next new outside old_hand next_hand new_hand a b = record {
   keys = λ space is way w. b.keys space (a.spaces space is) way w ∙ a.keys space is way w;
   lost = λ object some none. lost_next object some none (next.owner object) refl;
   never = λ object none. b.never object (a.never object none);
+  unnamed = λ object nobody. b.unnamed object (a.unnamed object nobody);
 }
   where
     lost_next : (object : Object) → IsSome (old.owner object) → new.owner object ≡ None → (o : Option Owner) → next.owner object ≡ o → outside object ≡ 0
@@ -363,6 +369,7 @@ release_keeps outside (done {forest} {hand}) held = record {
   keys = λ space is way w. refl;
   lost = λ object some none. absurd (some_not_none (forest.owner object) some none);
   never = λ object none. none;
+  unnamed = λ object nobody. nobody;
 }
 release_keeps outside (more {old} {next} {new} {old_hand} {next_hand} {new_hand} first rest) held =
     let a = step_keeps old next outside old_hand next_hand first held in
@@ -376,6 +383,10 @@ same_root old new space same root = record {
   unused = λ digit large small. same digit (omega arith) ∙ root.unused digit large small;
   keeper = ap named (same 15 (omega arith)) ∙ root.keeper;
 }
+
+pub release_unnamed : (old new : Forest) (outside : Object → ℕ) (old_hand new_hand : List Key) → Counted old outside old_hand → Release old old_hand new new_hand
+    → (object : Object) → NobodyNames old.keys object → NobodyNames new.keys object
+release_unnamed old new outside old_hand new_hand held r object nobody = (release_keeps outside r held).unnamed object nobody
 
 pub release_keeps_spaces : ReleaseKeepsSpaces
 release_keeps_spaces old new outside old_hand new_hand held r =

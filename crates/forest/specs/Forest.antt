@@ -68,8 +68,8 @@ pub record IsRoot (keys : ℕ → Key) (space : ℕ) : Type 0 where
   pub unused : (digit : ℕ) → 8 ≤ digit → digit < 15 → at keys (place_of space digit) ≡ Null
   pub keeper : named (at keys (place_of space 15)) ≡ None
 
--- The rules of single places: below a root heights are 1 to 4 and fall by one, the owner of a child is its parent's, and a node that belongs to no tree
--- has no key in the forest.
+-- The rules of single places: below a root heights are 1 to 4 and fall by one, the owner of a child is its parent's, and a
+-- node that belongs to no tree has no key in the forest.
 pub record Sound (forest : Forest) : Type 0 where
   pub within : (node : ℕ) → IsSome (forest.owner (NodeObject node)) → node < forest.nodes
   pub masked : (place : ℕ) → forest.owner (NodeObject (place / 16)) ≡ None → at forest.keys place ≡ Null

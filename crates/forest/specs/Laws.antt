@@ -4,13 +4,14 @@ use Rattle.kn_base.specs.declared.key.Key.{Key}
 use Rattle.kn_base.specs.declared.key.Key.TheVariants.{Null, Segment}
 use Rattle.unix_model.specs.Tables.{at, with_at, count_below, sum_below}
 use Rattle.forest.specs.Objects.{Object, PageObject, NodeObject, Owner, named, with_object}
-use Rattle.forest.specs.Walks.{key_below, IsWay, page_way, Mapping, mapping_of, map_of, place_of}
+use Rattle.forest.specs.Walks.{key_below, IsWay, page_way, Mapping, mapping_of, map_of, place_of, space_key}
 use Rattle.forest.specs.Forest.{Forest, Exact, Sound, IsSpace, OwnWay, CountedOnce, EndsAt, NobodyNames, in_hand, namings, node_way, FitsBelow, FitsUnder, key_height, IsRoot, masked, Held, NoPageOutside, top_digit}
 use Rattle.forest.specs.Changes.{raised, lowered, with_key, with_taken, with_given, and_outside, filled, with_fresh, with_copy, IsFree, MayStand, BelongsAt}
 use Rattle.forest.specs.Descent.{MadeOwn}
 use Rattle.forest.specs.Release.{Release}
 use Rattle.forest.specs.Labels.{IsIn, different, labels, TellsAlike, shared_page, IsProcessSpace, places_of, is_process}
 use Rattle.forest.specs.Mapped.{mapped, pages_below}
+use Rattle.forest.specs.Calls.{ChangesMap, DropsSpace, IsOwn}
 
 -- Keys of nodes that belong to no tree are masked out of a forest: writing one leaves the forest as it is, and writing
 -- another one writes it there.
@@ -293,6 +294,8 @@ ChangesOnePage =
     × (map_of (with_key last (place_of node (page % 16)) key).keys space ≡ with_at (map_of first.keys space) page (mapping_of key))
     × ((other : ℕ) → IsSpace first (key ∷ hand) other → other ≢ space
     → map_of (with_key last (place_of node (page % 16)) key).keys other ≡ map_of first.keys other)
+    × ((other : ℕ) → IsSpace first (key ∷ hand) other
+    → IsSpace (with_key last (place_of node (page % 16)) key) (at last.keys (place_of node (page % 16)) ∷ hand) other)
     × (taken ≤ 4)
     × (CountedOnce last key → OwnWay (with_key last (place_of node (page % 16)) key) space (page_way page))
 
@@ -316,3 +319,31 @@ ShareKeepsHeld =
     → forest.owner (NodeObject fresh) ≡ forest.owner (NodeObject (from / 16)) → digit < 16
     → at forest.keys (place_of fresh digit) ≡ Null
     → Held (with_key (raised forest (at forest.keys from)) (place_of fresh digit) (at forest.keys from)) outside hand
+
+-- A call that changes a page of a space: with the new key in hand the way is made this space's own, the key is written, and
+-- the key that stood there is released. This space's map changes at this page number, and the page is own where the key
+-- names one that is counted once.
+abbrev pub CallChangesMap : Type 0
+CallChangesMap =
+    (outside : Object → ℕ) (space : ℕ) (owner : Owner) (old last new : Forest) (page node : ℕ) (key : Key) (taken : ℕ)
+    → Held old outside (key ∷ []) → IsSpace old [] space → old.owner (NodeObject space) ≡ Some owner
+    → page < 2 ^ 19 → FitsUnder 1 key → ((object : Object) → named key ≡ Some object → old.owner object ≡ Some owner)
+    → MadeOwn outside (key ∷ []) space owner old (node_way page) last taken
+    → EndsAt last.keys space (node_way page) (NodeObject node)
+    → Release (with_key last (place_of node (page % 16)) key) (at last.keys (place_of node (page % 16)) ∷ []) new []
+    → Held new outside [] × ChangesMap old new space (with_at (map_of old.keys space) page (mapping_of key)) × (taken ≤ 4)
+
+-- A page found at the end of an own way is own.
+abbrev pub OwnWayIsOwn : Type 0
+OwnWayIsOwn =
+    (forest : Forest) (outside : Object → ℕ) (space page : ℕ) (found : Mapping)
+    → Held forest outside [] → IsSpace forest [] space → OwnWay forest space (page_way page)
+    → map_of forest.keys space page ≡ Some found → found.page ≢ 0 → IsOwn forest space page found
+
+-- A call that releases a space, whose key is in hand.
+abbrev pub CallDropsSpace : Type 0
+CallDropsSpace =
+    (outside : Object → ℕ) (space : ℕ) (old new : Forest)
+    → Held old outside (space_key space ∷ []) → old.count (NodeObject space) ≡ 1
+    → Release old (space_key space ∷ []) new []
+    → Held new outside [] × DropsSpace old new space

@@ -7,5 +7,6 @@ pub mod Descent
 pub mod Release
 pub mod Labels
 pub mod Mapped
+pub mod Calls
 pub mod Example
 pub mod Laws

@@ -5,6 +5,7 @@
 //! parameters, whose body does nothing: its statement stands in `specs/`, its proof in `proofs/`.
 #![tactic(auto)]
 
+mod calls;
 mod exact;
 mod example;
 mod held;
@@ -13,6 +14,7 @@ mod own;
 mod reach;
 mod release;
 
+pub use calls::{call_changes_map, call_drops_space, own_way_is_own};
 pub use exact::{
     give_is_exact, hand_in_is_exact, hand_out_is_exact, lower_is_exact, raise_is_exact,
     take_is_exact, write_is_exact,
