@@ -76,13 +76,13 @@ record CopyHere (forest : Forest) (outside : Object → ℕ) (hand : List Key) (
   spare : (object : Object) → named (at forest.keys place) ≡ Some object → 2 ≤ forest.count object
 
 -- what stands at a place after a node was copied
-data Copied (keys : ℕ → Key) (place fresh height : ℕ) (p : ℕ) : Type 0 where
+pub data Copied (keys : ℕ → Key) (place fresh height : ℕ) (p : ℕ) : Type 0 where
   here : p ≡ place → at (with_fresh keys place fresh height) p ≡ Segment (record { 0 = fresh }) height → Copied keys place fresh height p
   inside : p / 16 ≡ fresh → p ≢ place → at (with_fresh keys place fresh height) p ≡ key_below keys (at keys place) (p % 16) → Copied keys place fresh height p
   elsewhere : p / 16 ≢ fresh → p ≢ place → at (with_fresh keys place fresh height) p ≡ at keys p → Copied keys place fresh height p
 
-copied : (keys : ℕ → Key) (place fresh height p : ℕ) → Copied keys place fresh height p
-copied keys place fresh height p = ⊎_elim
+pub copied_at : (keys : ℕ → Key) (place fresh height p : ℕ) → Copied keys place fresh height p
+copied_at keys place fresh height p = ⊎_elim
     (λ (t : p ≡ place). here t (ap (at (with_fresh keys place fresh height)) t
     ∙ at-with_at (filled keys fresh (key_below keys (at keys place))) place (Segment (record { 0 = fresh }) height)))
     (λ (t : p ≢ place).
@@ -140,7 +140,7 @@ module _ (forest : Forest) (outside : Object → ℕ) (hand : List Key) (place f
       → (named upper ≡ Some (NodeObject (place / 16)) → FitsBelow upper (Segment (record { 0 = fresh }) height))
       → FitsBelow upper (key_below forest.keys upper digit)
       → FitsBelow upper (key_below (with_fresh forest.keys place fresh height) upper digit)
-  fits_copied (Segment node h) digit below off fits_new fits = go (copied forest.keys place fresh height (place_of node.0 digit))
+  fits_copied (Segment node h) digit below off fits_new fits = go (copied_at forest.keys place fresh height (place_of node.0 digit))
     where
       go : Copied forest.keys place fresh height (place_of node.0 digit) → FitsUnder h (at (with_fresh forest.keys place fresh height) (place_of node.0 digit))
       go (here t e) = rw e (fits_new (ap (λ n. Some (NodeObject n)) (let is : node.0 ≡ place / 16 = omega arith in is)))
@@ -192,7 +192,7 @@ module _ (forest : Forest) (outside : Object → ℕ) (hand : List Key) (place f
 
   heights_now : (p digit : ℕ) → digit < 16 → Copied forest.keys place fresh height p
       → FitsBelow (at (with_fresh forest.keys place fresh height) p) (key_below (with_fresh forest.keys place fresh height) (at (with_fresh forest.keys place fresh height) p) digit)
-  heights_now p digit below (here t e) = rw e (new_below digit below (copied forest.keys place fresh height (place_of fresh digit)))
+  heights_now p digit below (here t e) = rw e (new_below digit below (copied_at forest.keys place fresh height (place_of fresh digit)))
     where
       new_below : (digit : ℕ) → digit < 16 → Copied forest.keys place fresh height (place_of fresh digit)
           → FitsUnder height (at (with_fresh forest.keys place fresh height) (place_of fresh digit))
@@ -210,10 +210,10 @@ module _ (forest : Forest) (outside : Object → ℕ) (hand : List Key) (place f
   sound_now : Sound (with_copy forest place fresh height owner)
   sound_now = record {
     within = within_now;
-    masked = λ p none. masked_now p none (copied forest.keys place fresh height p);
-    owned = λ p object h. owned_now p object h (copied forest.keys place fresh height p);
-    heights = λ p digit below. heights_now p digit below (copied forest.keys place fresh height p);
-    low = λ p. low_now p (copied forest.keys place fresh height p);
+    masked = λ p none. masked_now p none (copied_at forest.keys place fresh height p);
+    owned = λ p object h. owned_now p object h (copied_at forest.keys place fresh height p);
+    heights = λ p digit below. heights_now p digit below (copied_at forest.keys place fresh height p);
+    low = λ p. low_now p (copied_at forest.keys place fresh height p);
   }
 
   own_place_null : (object : Object) (digit : ℕ) → digit < 16 → named (at forest.keys (place_of fresh digit)) ≢ Some object
@@ -321,7 +321,7 @@ module _ (forest : Forest) (outside : Object → ℕ) (hand : List Key) (place f
       (is_or_not object (NodeObject fresh))
 
   nobody_now : (object : Object) → NobodyNames forest.keys object → object ≢ NodeObject fresh → NobodyNames (with_fresh forest.keys place fresh height) object
-  nobody_now object none differs p h = go (copied forest.keys place fresh height p)
+  nobody_now object none differs p h = go (copied_at forest.keys place fresh height p)
     where
       go : Copied forest.keys place fresh height p → ⊥
       go (here t e) = differs (let same : Some object ≡ Some (NodeObject fresh) = sym h ∙ ap named e in let is : object ≡ NodeObject fresh = cc in is)
@@ -355,9 +355,9 @@ module _ (forest : Forest) (outside : Object → ℕ) (hand : List Key) (place f
 
   root_now : (space : ℕ) → IsSpace forest hand space → IsRoot (with_fresh forest.keys place fresh height) space
   root_now space is = record {
-    parts = λ digit small. parts_at digit small (copied forest.keys place fresh height (place_of space digit));
-    unused = λ digit large small. unused_at digit large small (copied forest.keys place fresh height (place_of space digit));
-    keeper = keeper_at (copied forest.keys place fresh height (place_of space 15));
+    parts = λ digit small. parts_at digit small (copied_at forest.keys place fresh height (place_of space digit));
+    unused = λ digit large small. unused_at digit large small (copied_at forest.keys place fresh height (place_of space digit));
+    keeper = keeper_at (copied_at forest.keys place fresh height (place_of space 15));
   }
     where
       root : IsRoot forest.keys space

@@ -152,21 +152,21 @@ module _ (forest : Forest) (outside : Object → ℕ) (hand : List Key) (space :
       (λ e. some_not_none (forest.owner (NodeObject other)) is.owned (ap (λ n. forest.owner (NodeObject n)) e ∙ free.unowned))
 
 -- what going down a way leaves
-record Descended (outside : Object → ℕ) (hand : List Key) (space : ℕ) (owner : Owner) (first last : Forest) (way : List ℕ) (taken : ℕ) : Type 0 where
-  end : AtEnd last outside hand space owner way
-  node : ℕ
-  ends : EndsAt last.keys space way (NodeObject node)
-  spaces : (other : ℕ) → IsSpace first hand other ↔ IsSpace last hand other
-  maps : (other : ℕ) → IsSpace first hand other → map_of last.keys other ≡ map_of first.keys other
-  owners : (object : Object) → IsSome (first.owner object) → last.owner object ≡ first.owner object
-  few : taken ≤ length way
-  unchanged : OwnWay first space way → (taken ≡ 0) × (last ≡ first)
+pub record Descended (outside : Object → ℕ) (hand : List Key) (space : ℕ) (owner : Owner) (first last : Forest) (way : List ℕ) (taken : ℕ) : Type 0 where
+  pub end : AtEnd last outside hand space owner way
+  pub node : ℕ
+  pub ends : EndsAt last.keys space way (NodeObject node)
+  pub spaces : (other : ℕ) → IsSpace first hand other ↔ IsSpace last hand other
+  pub maps : (other : ℕ) → IsSpace first hand other → map_of last.keys other ≡ map_of first.keys other
+  pub owners : (object : Object) → IsSome (first.owner object) → last.owner object ≡ first.owner object
+  pub few : taken ≤ length way
+  pub unchanged : OwnWay first space way → (taken ≡ 0) × (last ≡ first)
 
-shorter_top : (digit : ℕ) (way : List ℕ) → top_digit (digit ∷ way) < 8 → top_digit way < 8
+pub shorter_top : (digit : ℕ) (way : List ℕ) → top_digit (digit ∷ way) < 8 → top_digit way < 8
 shorter_top digit [] top = omega arith
 shorter_top digit (next ∷ way) top = top
 
-descend : (outside : Object → ℕ) (hand : List Key) (space : ℕ) (owner : Owner) {first last : Forest} {way : List ℕ} {taken : ℕ}
+pub descend : (outside : Object → ℕ) (hand : List Key) (space : ℕ) (owner : Owner) {first last : Forest} {way : List ℕ} {taken : ℕ}
     → MadeOwn outside hand space owner first way last taken
     → AtEnd first outside hand space owner [] → IsWay way → length way ≤ 4 → top_digit way < 8
     → Descended outside hand space owner first last way taken

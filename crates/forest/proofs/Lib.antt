@@ -16,6 +16,7 @@ pub mod DescentLaws
 pub mod PruneLaws
 pub mod ShareLaws
 pub mod CallLaws
+pub mod EmptyLaws
 pub mod MaskLaws
 pub mod ExampleLaws
 pub mod ExampleShows

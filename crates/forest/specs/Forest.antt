@@ -97,11 +97,17 @@ pub record Held (forest : Forest) (outside : Object → ℕ) (hand : List Key) :
   pub open counts use *
   pub rooted : Rooted forest hand
 
--- no node below a root is empty
+-- a node has a key that isn't Null
+abbrev pub IsFilled : (ℕ → Key) → ℕ → Type 0
+IsFilled keys node = (digit : ℕ) × (digit < 16) × (at keys (place_of node digit) ≢ Null)
+
+-- no node below a root is empty, ..
 abbrev pub NoneEmpty : (ℕ → Key) → Type 0
-NoneEmpty keys =
-    (place node height : ℕ) → at keys place ≡ Segment (record { 0 = node }) height
-    → (digit : ℕ) × (digit < 16) × (at keys (place_of node digit) ≢ Null)
+NoneEmpty keys = (place node : ℕ) → named (at keys place) ≡ Some (NodeObject node) → IsFilled keys node
+
+-- .. but this one may be
+abbrev pub NoneEmptyBut : (ℕ → Key) → ℕ → Type 0
+NoneEmptyBut keys but = (place node : ℕ) → named (at keys place) ≡ Some (NodeObject node) → node ≢ but → IsFilled keys node
 
 -- a key names an object that is counted once
 abbrev pub CountedOnce : Forest → Key → Type 0

@@ -5,7 +5,7 @@ use Rattle.kn_base.specs.declared.key.Key.TheVariants.{Null, Segment}
 use Rattle.unix_model.specs.Tables.{at, with_at, count_below, sum_below}
 use Rattle.forest.specs.Objects.{Object, PageObject, NodeObject, Owner, named, with_object}
 use Rattle.forest.specs.Walks.{key_below, IsWay, page_way, Mapping, mapping_of, map_of, place_of, space_key}
-use Rattle.forest.specs.Forest.{Forest, Exact, Sound, IsSpace, OwnWay, CountedOnce, EndsAt, NobodyNames, in_hand, namings, node_way, FitsBelow, FitsUnder, key_height, IsRoot, masked, Held, NoPageOutside, top_digit}
+use Rattle.forest.specs.Forest.{Forest, Exact, Sound, IsSpace, OwnWay, CountedOnce, EndsAt, NobodyNames, in_hand, namings, node_way, FitsBelow, FitsUnder, key_height, IsRoot, masked, NoneEmpty, NoneEmptyBut, Held, NoPageOutside, top_digit}
 use Rattle.forest.specs.Changes.{raised, lowered, with_key, with_taken, with_given, and_outside, filled, with_fresh, with_copy, IsFree, MayStand, BelongsAt}
 use Rattle.forest.specs.Descent.{MadeOwn}
 use Rattle.forest.specs.Release.{Release}
@@ -347,3 +347,32 @@ CallDropsSpace =
     → Held old outside (space_key space ∷ []) → old.count (NodeObject space) ≡ 1
     → Release old (space_key space ∷ []) new []
     → Held new outside [] × DropsSpace old new space
+
+-- Going down a way leaves no node empty but the last one, ..
+abbrev pub DescentLeavesLastEmpty : Type 0
+DescentLeavesLastEmpty =
+    (outside : Object → ℕ) (hand : List Key) (space : ℕ) (owner : Owner) (first last : Forest) (way : List ℕ) (taken node : ℕ)
+    → Held first outside hand → IsSpace first hand space → first.owner (NodeObject space) ≡ Some owner
+    → IsWay way → length way ≤ 4 → top_digit way < 8
+    → MadeOwn outside hand space owner first way last taken → EndsAt last.keys space way (NodeObject node)
+    → NoneEmpty first.keys → NoneEmptyBut last.keys node
+
+-- .. writing a page's key fills it, ..
+abbrev pub WriteFills : Type 0
+WriteFills =
+    (keys : ℕ → Key) (node digit : ℕ) (key : Key)
+    → NoneEmptyBut keys node → digit < 16 → FitsUnder 1 key → key ≢ Null → NoneEmpty (with_at keys (place_of node digit) key)
+
+-- .. taking a key away may leave its node empty, ..
+abbrev pub TakingAwayEmpties : Type 0
+TakingAwayEmpties =
+    (keys : ℕ → Key) (node digit : ℕ)
+    → NoneEmpty keys → digit < 16 → NoneEmptyBut (with_at keys (place_of node digit) Null) node
+
+-- .. and pruning an empty node may leave the one above it empty.
+abbrev pub PruningEmptiesAbove : Type 0
+PruningEmptiesAbove =
+    (keys : ℕ → Key) (above digit node : ℕ)
+    → NoneEmptyBut keys node → digit < 16
+    → ((place : ℕ) → named (at keys place) ≡ Some (NodeObject node) → place ≡ place_of above digit)
+    → NoneEmptyBut (with_at keys (place_of above digit) Null) above

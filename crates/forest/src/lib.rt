@@ -6,6 +6,7 @@
 #![tactic(auto)]
 
 mod calls;
+mod empty;
 mod exact;
 mod example;
 mod held;
@@ -15,6 +16,9 @@ mod reach;
 mod release;
 
 pub use calls::{call_changes_map, call_drops_space, own_way_is_own};
+pub use empty::{
+    descent_leaves_last_empty, pruning_empties_above, taking_away_empties, write_fills,
+};
 pub use exact::{
     give_is_exact, hand_in_is_exact, hand_out_is_exact, lower_is_exact, raise_is_exact,
     take_is_exact, write_is_exact,
