@@ -1,16 +1,13 @@
 -- Calls on spaces, put together.
-use Rattle.std.proofs.Common.{◌≡◌, ◌≢◌, ◌<◌, ◌≤◌, ◌+◌, ◌*◌, ◌%◌, ◌^◌, ℕ, Option, Some, None, List, [], ◌∷◌, refl, ap, sym, ◌∙◌, arith, ⊎_elim, ◌⊎◌}
-use Rattle.std.specs.Option.{is_some, IsSome}
+use Rattle.std.proofs.Common.{◌≡◌, ◌≢◌, ◌%◌, ℕ, Option, Some, None, List, [], ◌∷◌, refl, ◌∙◌, arith}
+use Rattle.std.specs.Option.{IsSome}
 use Rattle.kn_base.specs.declared.key.Key.{Key}
-use Rattle.unix_model.specs.Tables.{at, with_at}
-use Rattle.forest.specs.Objects.{Object, NodeObject, Owner, named}
-use Rattle.forest.specs.Walks.{place_of, space_key, page_way, Mapping, mapping_of, map_of}
-use Rattle.forest.specs.Forest.{Forest, Held, IsSpace, FitsUnder, EndsAt, OwnWay, NobodyNames, in_hand, node_way, namings}
+use Rattle.unix_model.specs.Tables.{at}
+use Rattle.forest.specs.Objects.{NodeObject}
+use Rattle.forest.specs.Walks.{place_of, space_key}
+use Rattle.forest.specs.Forest.{Forest, IsSpace, FitsUnder}
 use Rattle.forest.specs.Changes.{with_key}
-use Rattle.forest.specs.Release.{Release}
-use Rattle.forest.specs.Calls.{KeepsOthers, ChangesMap, DropsSpace, IsOwn}
 use Rattle.forest.specs.Laws.{CallChangesMap, OwnWayIsOwn, CallDropsSpace}
-use Rattle.forest.proofs.CountLaws.{true-names}
 use Rattle.forest.proofs.ExactLaws.{not_named, nobody_counted}
 use Rattle.forest.proofs.OwnLaws.{own_page_is_alone}
 use Rattle.forest.proofs.ReleaseLaws.{no_name, last_key, front_owned, release_unnamed, release_keeps_spaces, release_gives_unnamed}

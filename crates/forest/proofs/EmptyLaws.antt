@@ -1,22 +1,19 @@
 -- Which nodes may be empty.
-use Rattle.std.proofs.Common.{◌≡◌, ◌≢◌, ◌<◌, ◌≤◌, ◌+◌, ◌-◌, ◌*◌, ◌/◌, ◌%◌, ℕ, Option, Some, None, List, [], ◌∷◌, length, refl, ap, sym, ◌∙◌, arith, ⊎_elim, ◌⊎◌}
-use Rattle.std.specs.Option.{is_some, IsSome}
+use Rattle.std.proofs.Common.{◌≡◌, ◌≢◌, ◌<◌, ◌≤◌, ◌-◌, ◌/◌, ◌%◌, ℕ, Some, None, List, [], length, refl, ap, sym, ◌∙◌, arith, ⊎_elim}
 use Rattle.std.proofs.lemmas.Bool.{cases_eq}
 use Rattle.kn_base.specs.declared.key.Key.{Key}
-use Rattle.kn_base.specs.declared.key.Key.TheVariants.{Null, Number, Page, Node, Segment, Start, Resume, Domain, Meter, Service}
+use Rattle.kn_base.specs.declared.key.Key.TheVariants.{Null, Segment}
 use Rattle.unix_model.specs.Tables.{at, with_at}
 use Rattle.unix_model.proofs.TableLaws.{at-with_at, at-with_at-other}
 use Rattle.forest.specs.Objects.{Object, NodeObject, Owner, named}
-use Rattle.forest.specs.Walks.{place_of, key_below, key_along, space_key, IsWay}
-use Rattle.forest.specs.Forest.{Forest, Held, IsSpace, NobodyNames, top_digit, FitsUnder, EndsAt, IsFilled, NoneEmpty, NoneEmptyBut}
+use Rattle.forest.specs.Walks.{place_of, key_along, space_key, IsWay}
+use Rattle.forest.specs.Forest.{Forest, top_digit, EndsAt, IsFilled, NoneEmpty, NoneEmptyBut}
 use Rattle.forest.specs.Changes.{with_fresh}
 use Rattle.forest.specs.Descent.{MadeOwn, root, kept, copied}
-use Rattle.forest.specs.Laws.{DescentLeavesLastEmpty, WriteFills, TakingAwayEmpties, PruningEmptiesAbove}
+use Rattle.forest.specs.Laws.{DescentLeavesLastEmpty, WriteFills, TakingAwayEmpties, PruningEmptiesAbove, WriteElsewhereKeepsFilled}
 use Rattle.forest.proofs.WalkLaws.{step}
-use Rattle.forest.proofs.MapLaws.{node_key}
 use Rattle.forest.proofs.CopyHeld.{Copied, copied_at, here, inside, elsewhere}
-use Rattle.forest.proofs.CopyLaws.{free_unnamed, end_owned, copy_makes_own}
-use Rattle.forest.proofs.ReleaseLaws.{some_not_none}
+use Rattle.forest.proofs.CopyLaws.{copy_makes_own}
 use Rattle.forest.proofs.DescentLaws.{leaf_names_page, AtEnd, descend, shorter_top}
 
 -- a node whose keys have not changed, but for one that is no key of it
@@ -110,3 +107,13 @@ pub descent_leaves_last_empty : DescentLeavesLastEmpty
 descent_leaves_last_empty outside hand space owner first last way taken node held is_space space_owner is_way short top made ends none =
     last_empty outside hand space owner made (record { held = held; is_space = is_space; space_owner = space_owner; is_way = tt; own = tt })
     is_way short top none node ends
+
+pub write_elsewhere_keeps_filled : WriteElsewhereKeepsFilled
+write_elsewhere_keeps_filled keys place key nobody not_itself none key_filled p m h = ⊎_elim
+    (λ (t : p ≡ place).
+    let key_names : named key ≡ Some (NodeObject m) = ap named (sym (at-with_at keys place key)) ∙ ap (λ q. named (at (with_at keys place key) q)) (sym t) ∙ h in
+    filled_still keys place key m (λ u. not_itself (key_names ∙ ap (λ n. Some (NodeObject n)) u)) (key_filled m key_names))
+    (λ (t : p ≢ place).
+    let was = ap named (sym (at-with_at-other keys place p key t)) ∙ h in
+    filled_still keys place key m (λ u. nobody p (was ∙ ap (λ n. Some (NodeObject n)) u)) (none p m was))
+    (cases_eq p place)

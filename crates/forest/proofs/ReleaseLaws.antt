@@ -8,10 +8,10 @@ use Rattle.unix_model.specs.Tables.{at, with_at}
 use Rattle.unix_model.proofs.TableLaws.{at-with_at, at-with_at-other}
 use Rattle.forest.specs.Objects.{Object, PageObject, NodeObject, Owner, named, names, same_object, is_object, with_object}
 use Rattle.forest.specs.Walks.{place_of, key_below, key_along, space_key, IsWay, page_way, mapping_of}
-use Rattle.forest.specs.Forest.{Forest, Sound, IsSpace, NobodyNames, FitsBelow, FitsUnder, key_height, in_hand, namings, IsRoot, Counted, Held}
+use Rattle.forest.specs.Forest.{Forest, Sound, IsSpace, NobodyNames, FitsBelow, FitsUnder, key_height, in_hand, namings, IsRoot, Counted, Held, IsFilled, NoneEmpty}
 use Rattle.forest.specs.Changes.{with_count, with_key, counted_less, with_given}
 use Rattle.forest.specs.Release.{ReleaseStep, nothing, shared, page, take_out, empty_node, Release, done, more}
-use Rattle.forest.specs.Laws.{ReleaseKeepsSpaces, ReleaseGivesUnnamed, ReleaseGoesDown}
+use Rattle.forest.specs.Laws.{ReleaseKeepsSpaces, ReleaseGivesUnnamed, ReleaseGoesDown, ReleaseLeavesNoneEmpty}
 use Rattle.forest.proofs.CountLaws.{same_object-same, same_object-true, true-names, counted_one}
 use Rattle.forest.proofs.OwnLaws.{owned_object, place_within, way_of_page}
 use Rattle.forest.proofs.ExactLaws.{bit, not_named, in_hand-cons, lower, write, nobody_counted, with_object-here, spaces_back}
@@ -82,6 +82,7 @@ record StepKeeps (old new : Forest) (outside : Object → ℕ) (old_hand new_han
   lost : (object : Object) → IsSome (old.owner object) → new.owner object ≡ None → outside object ≡ 0
   never : (object : Object) → old.owner object ≡ None → new.owner object ≡ None
   unnamed : (object : Object) → NobodyNames old.keys object → NobodyNames new.keys object
+  filled : NoneEmpty old.keys → NoneEmpty new.keys
 
 pub tail_hand : (key : Key) (hand : List Key) (object : Object) → in_hand (key ∷ hand) object ≡ 0 → in_hand hand object ≡ 0
 tail_hand key hand object e = let cons = in_hand-cons key hand object in omega arith
@@ -122,6 +123,7 @@ nothing_keeps forest outside key hand held none = record {
   lost = λ object some none. absurd (some_not_none (forest.owner object) some none);
   never = λ object none. none;
   unnamed = λ object nobody. nobody;
+  filled = λ none. none;
 }
 
 shared_keeps : (forest : Forest) (outside : Object → ℕ) (key : Key) (hand : List Key) (object : Object) → Counted forest outside (key ∷ hand)
@@ -144,6 +146,7 @@ shared_keeps forest outside key hand object held e two = record {
   lost = λ other some none. absurd (some_not_none (forest.owner other) some none);
   never = λ other none. none;
   unnamed = λ other nobody. nobody;
+  filled = λ none. none;
 }
 
 same_owner : (forest : Forest) (object other : Object) → other ≢ object → (with_given forest object).owner other ≡ forest.owner other
@@ -234,6 +237,7 @@ given_keeps forest outside key hand object held e once empty =
           (λ (t : other ≢ object). absurd (some_not_none (forest.owner other) some (sym (same_owner forest object other t) ∙ none)))
           (is_or_not other object);
       unnamed = λ other nobody. nobody;
+      filled = λ none. none;
       never = λ other none. ⊎_elim
           (λ (t : other ≡ object). ap (with_given forest object).owner t ∙ none_now)
           (λ (t : other ≢ object). same_owner forest object other t ∙ none)
@@ -288,6 +292,12 @@ taken_along keys node digit below nobody space apart (d ∷ way) w =
     let is : m ≡ node = omega arith in
     stays_off keys (NodeObject node) nobody (space_key space) (not_the_node space node apart) way (h ∙ ap (λ n. Some (NodeObject n)) is))
 
+-- another node has still a key
+taken_filled : (keys : ℕ → Key) (node digit : ℕ) → digit < 16 → (other : ℕ) → other ≢ node → IsFilled keys other → IsFilled (with_at keys (place_of node digit) Null) other
+taken_filled keys node digit small other apart f =
+    let below = f.1 in
+    (f.0, f.1, λ e. f.2 (sym (at-with_at-other keys (place_of node digit) (place_of other f.0) Null (λ t. apart (let is : other ≡ node = omega arith in is))) ∙ e))
+
 -- a key that is taken out of a node in hand
 take_out_keeps : (forest : Forest) (outside : Object → ℕ) (key : Key) (hand : List Key) (node digit : ℕ) → Counted forest outside (key ∷ hand)
     → named key ≡ Some (NodeObject node) → forest.count (NodeObject node) ≡ 1 → digit < 16
@@ -329,6 +339,7 @@ take_out_keeps forest outside key hand node digit held e once below =
       lost = λ object some none. absurd (some_not_none (forest.owner object) some none);
       never = λ object none. none;
       unnamed = λ object nobody p h. nobody p (taken_named forest.keys (place_of node digit) p object h);
+      filled = λ none p m h. taken_filled forest.keys node digit below m (λ e. last.nobody p (taken_named forest.keys (place_of node digit) p (NodeObject m) h ∙ ap (λ n. Some (NodeObject n)) e)) (none p m (taken_named forest.keys (place_of node digit) p (NodeObject m) h));
     }
 
 step_keeps : (old new : Forest) (outside : Object → ℕ) (old_hand new_hand : List Key) → ReleaseStep old old_hand new new_hand → Counted old outside old_hand
@@ -355,6 +366,7 @@ keeps_all old next new outside old_hand next_hand new_hand a b = record {
   lost = λ object some none. lost_next object some none (next.owner object) refl;
   never = λ object none. b.never object (a.never object none);
   unnamed = λ object nobody. b.unnamed object (a.unnamed object nobody);
+  filled = λ none. b.filled (a.filled none);
 }
   where
     lost_next : (object : Object) → IsSome (old.owner object) → new.owner object ≡ None → (o : Option Owner) → next.owner object ≡ o → outside object ≡ 0
@@ -370,6 +382,7 @@ release_keeps outside (done {forest} {hand}) held = record {
   lost = λ object some none. absurd (some_not_none (forest.owner object) some none);
   never = λ object none. none;
   unnamed = λ object nobody. nobody;
+  filled = λ none. none;
 }
 release_keeps outside (more {old} {next} {new} {old_hand} {next_hand} {new_hand} first rest) held =
     let a = step_keeps old next outside old_hand next_hand first held in
@@ -421,3 +434,6 @@ release_gives_unnamed old new outside old_hand new_hand held r object some =
 -- a Null key goes out of hand
 pub drop_null : (forest : Forest) (outside : Object → ℕ) (hand : List Key) → Held forest outside (Null ∷ hand) → Held forest outside hand
 drop_null forest outside hand held = (release_keeps_spaces forest forest outside (Null ∷ hand) hand held (more (nothing Null refl) done)).0
+
+pub release_leaves_none_empty : ReleaseLeavesNoneEmpty
+release_leaves_none_empty old new outside old_hand new_hand held r none = (release_keeps outside r held.counts).filled none

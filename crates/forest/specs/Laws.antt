@@ -5,7 +5,7 @@ use Rattle.kn_base.specs.declared.key.Key.TheVariants.{Null, Segment}
 use Rattle.unix_model.specs.Tables.{at, with_at, count_below, sum_below}
 use Rattle.forest.specs.Objects.{Object, PageObject, NodeObject, Owner, named, with_object}
 use Rattle.forest.specs.Walks.{key_below, IsWay, page_way, Mapping, mapping_of, map_of, place_of, space_key}
-use Rattle.forest.specs.Forest.{Forest, Exact, Sound, IsSpace, OwnWay, CountedOnce, EndsAt, NobodyNames, in_hand, namings, node_way, FitsBelow, FitsUnder, key_height, IsRoot, masked, NoneEmpty, NoneEmptyBut, Held, NoPageOutside, top_digit}
+use Rattle.forest.specs.Forest.{Forest, Exact, Sound, IsSpace, OwnWay, CountedOnce, EndsAt, NobodyNames, in_hand, namings, node_way, FitsBelow, FitsUnder, key_height, IsRoot, masked, IsFilled, NoneEmpty, NoneEmptyBut, Held, NoPageOutside, top_digit}
 use Rattle.forest.specs.Changes.{raised, lowered, with_key, with_taken, with_given, and_outside, filled, with_fresh, with_copy, IsFree, MayStand, BelongsAt}
 use Rattle.forest.specs.Descent.{MadeOwn}
 use Rattle.forest.specs.Release.{Release}
@@ -376,3 +376,18 @@ PruningEmptiesAbove =
     → NoneEmptyBut keys node → digit < 16
     → ((place : ℕ) → named (at keys place) ≡ Some (NodeObject node) → place ≡ place_of above digit)
     → NoneEmptyBut (with_at keys (place_of above digit) Null) above
+
+-- Releasing leaves no node empty.
+abbrev pub ReleaseLeavesNoneEmpty : Type 0
+ReleaseLeavesNoneEmpty =
+    (old new : Forest) (outside : Object → ℕ) (old_hand new_hand : List Key)
+    → Held old outside old_hand → Release old old_hand new new_hand
+    → NoneEmpty old.keys → NoneEmpty new.keys
+
+-- A key of a node that isn't empty, written in a node that nobody names, as in a fresh root, leaves none empty.
+abbrev pub WriteElsewhereKeepsFilled : Type 0
+WriteElsewhereKeepsFilled =
+    (keys : ℕ → Key) (place : ℕ) (key : Key)
+    → NobodyNames keys (NodeObject (place / 16)) → named key ≢ Some (NodeObject (place / 16)) → NoneEmpty keys
+    → ((node : ℕ) → named key ≡ Some (NodeObject node) → IsFilled keys node)
+    → NoneEmpty (with_at keys place key)

@@ -1,6 +1,6 @@
 //! No node below a root is empty between calls.
 
-ghost use Rattle.forest.specs.Laws.{DescentLeavesLastEmpty, WriteFills, TakingAwayEmpties, PruningEmptiesAbove};
+ghost use Rattle.forest.specs.Laws.{DescentLeavesLastEmpty, WriteFills, TakingAwayEmpties, ReleaseLeavesNoneEmpty, WriteElsewhereKeepsFilled, PruningEmptiesAbove};
 
 /// Going down a way leaves no node empty but the last one.
 pub fn descent_leaves_last_empty()
@@ -15,6 +15,16 @@ pub fn write_fills()
 /// Taking a key away may leave its node empty, and no other one.
 pub fn taking_away_empties()
     ensures { TakingAwayEmpties }
+{}
+
+/// Releasing leaves no node empty.
+pub fn release_leaves_none_empty()
+    ensures { ReleaseLeavesNoneEmpty }
+{}
+
+/// A key of a node with keys, written in a node that nobody names, leaves none empty.
+pub fn write_elsewhere_keeps_filled()
+    ensures { WriteElsewhereKeepsFilled }
 {}
 
 /// Pruning an empty node may leave the one above it empty, and no other one.
