@@ -182,7 +182,7 @@ detach_keeps_maps keys place node h empty space =
     (gone_along keys place node h empty (space_key space) (page_way page) (way_of_page page)))
 
 -- the way to a page: its first step, and the four after it
-page_parts : (keys : ℕ → Key) (space page : ℕ)
+pub page_parts : (keys : ℕ → Key) (space page : ℕ)
     → key_at_page keys space page ≡ key_along keys (key_below keys (space_key space) (page / 16 / 16 / 16 / 16 % 16)) (digits 4 page)
 unfolding page_way digits
 page_parts keys space page = refl

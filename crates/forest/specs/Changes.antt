@@ -1,5 +1,5 @@
 -- Changes of a forest: counts, owners and keys, one at a time, and what is made of them.
-use Rattle.std.specs.Prelude.{◌≡◌, ◌≢◌, ◌<◌, ◌+◌, ◌-◌, ◌/◌, ◌%◌, ℕ, ◌==◌, if◌then◌else◌, Option, Some, None, IsSome, List}
+use Rattle.std.specs.Prelude.{◌≡◌, ◌≢◌, ◌<◌, ◌≤◌, ◌+◌, ◌-◌, ◌/◌, ◌%◌, ℕ, ◌==◌, if◌then◌else◌, Option, Some, None, IsSome, List}
 use Rattle.kn_base.specs.declared.key.Key.{Key}
 use Rattle.kn_base.specs.declared.key.Key.TheVariants.{Segment}
 use Rattle.unix_model.specs.Tables.{at, with_at, count_below}
@@ -90,3 +90,12 @@ pub record MayStand (forest : Forest) (hand : List Key) (place : ℕ) (key : Key
 pub record BelongsAt (forest : Forest) (place : ℕ) (key : Key) : Type 0 where
   pub same_owner : (object : Object) → named key ≡ Some object → forest.owner object ≡ forest.owner (NodeObject (place / 16))
   pub heights : (digit : ℕ) → digit < 16 → FitsBelow key (key_below forest.keys key digit)
+
+-- A fresh root was added: it belongs to a tree and has these sixteen keys, of which the last eight name nothing, and all
+-- else has stayed.
+pub record WithRoot (old new : Forest) (fresh : ℕ) (content : ℕ → Key) : Type 0 where
+  pub was_free : old.owner (NodeObject fresh) ≡ None
+  pub now_owned : IsSome (new.owner (NodeObject fresh))
+  pub same_owners : (object : Object) → object ≢ NodeObject fresh → new.owner object ≡ old.owner object
+  pub keys : new.keys ≡ filled old.keys fresh content
+  pub rest : (digit : ℕ) → 8 ≤ digit → digit < 16 → named (content digit) ≡ None

@@ -6,12 +6,12 @@ use Rattle.unix_model.specs.Tables.{at, with_at, count_below, sum_below}
 use Rattle.forest.specs.Objects.{Object, PageObject, NodeObject, Owner, named, with_object}
 use Rattle.forest.specs.Walks.{key_below, IsWay, page_way, Mapping, mapping_of, map_of, place_of, space_key}
 use Rattle.forest.specs.Forest.{Forest, Exact, Sound, IsSpace, OwnWay, CountedOnce, EndsAt, NobodyNames, in_hand, namings, node_way, FitsBelow, FitsUnder, key_height, IsRoot, masked, IsFilled, NoneEmpty, NoneEmptyBut, Held, NoPageOutside, top_digit}
-use Rattle.forest.specs.Changes.{raised, lowered, with_key, with_taken, with_given, and_outside, filled, with_fresh, with_copy, IsFree, MayStand, BelongsAt}
+use Rattle.forest.specs.Changes.{raised, lowered, with_key, with_taken, with_given, and_outside, filled, with_fresh, with_copy, IsFree, MayStand, BelongsAt, WithRoot}
 use Rattle.forest.specs.Descent.{MadeOwn}
 use Rattle.forest.specs.Release.{Release}
 use Rattle.forest.specs.Labels.{IsIn, different, labels, TellsAlike, shared_page, IsProcessSpace, places_of, is_process}
 use Rattle.forest.specs.Mapped.{mapped, pages_below}
-use Rattle.forest.specs.Calls.{ChangesMap, DropsSpace, IsOwn}
+use Rattle.forest.specs.Calls.{ChangesMap, AddsSpace, DropsSpace, IsOwn}
 
 -- Keys of nodes that belong to no tree are masked out of a forest: writing one leaves the forest as it is, and writing
 -- another one writes it there.
@@ -391,3 +391,19 @@ WriteElsewhereKeepsFilled =
     → NobodyNames keys (NodeObject (place / 16)) → named key ≢ Some (NodeObject (place / 16)) → NoneEmpty keys
     → ((node : ℕ) → named key ≡ Some (NodeObject node) → IsFilled keys node)
     → NoneEmpty (with_at keys place key)
+
+-- A call that adds a space over the children of another one, and a call that adds an empty space. The one key of the new
+-- space is handed out.
+abbrev pub CallSharesSpace : Type 0
+CallSharesSpace =
+    (outside : Object → ℕ) (space fresh : ℕ) (old new : Forest) (content : ℕ → Key)
+    → Sound old → Held new (and_outside outside (space_key fresh)) [] → WithRoot old new fresh content → space ≢ fresh
+    → ((digit : ℕ) → digit < 8 → content digit ≡ at old.keys (place_of space digit))
+    → AddsSpace old new fresh (map_of old.keys space)
+
+abbrev pub CallAddsSpace : Type 0
+CallAddsSpace =
+    (outside : Object → ℕ) (fresh : ℕ) (old new : Forest) (content : ℕ → Key)
+    → Sound old → Held new (and_outside outside (space_key fresh)) [] → WithRoot old new fresh content
+    → ((digit : ℕ) → digit < 8 → content digit ≡ Null)
+    → AddsSpace old new fresh (λ page. None)

@@ -15,7 +15,9 @@ mod own;
 mod reach;
 mod release;
 
-pub use calls::{call_changes_map, call_drops_space, own_way_is_own};
+pub use calls::{
+    call_adds_space, call_changes_map, call_drops_space, call_shares_space, own_way_is_own,
+};
 pub use empty::{
     descent_leaves_last_empty, pruning_empties_above, release_leaves_none_empty,
     taking_away_empties, write_elsewhere_keeps_filled, write_fills,
