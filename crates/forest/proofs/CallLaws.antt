@@ -25,18 +25,18 @@ with_leaf forest hand key fits space is = record {
 pub call_changes_map : CallChangesMap
 call_changes_map outside space owner old last new page node key taken held is_space space_owner below fits key_owner made ends release =
     let one = changes_one_page outside [] space owner old last page node key taken held (with_leaf old [] key fits space is_space) space_owner below fits key_owner made ends in
-    let released = release_keeps_spaces (with_key last (place_of node (page % 16)) key) new outside (at last.keys (place_of node (page % 16)) ∷ []) [] one.0 release in
-    let between = λ (other : ℕ) (is : IsSpace old [] other). one.3 other (with_leaf old [] key fits other is) in (
+    let released = release_keeps_spaces (with_key last (place_of node (page % 16)) key) new outside (at last.keys (place_of node (page % 16)) ∷ []) [] one.held release in
+    let between = λ (other : ℕ) (is : IsSpace old [] other). one.spaces other (with_leaf old [] key fits other is) in (
       released.0,
       record {
         stays = (released.1 space (between space is_space)).0;
-        here = (released.1 space (between space is_space)).1 ∙ one.1;
+        here = (released.1 space (between space is_space)).1 ∙ one.here;
         others = record {
           stay = λ other is apart. (released.1 other (between other is)).0;
-          maps = λ other is apart. (released.1 other (between other is)).1 ∙ one.2 other (with_leaf old [] key fits other is) apart;
+          maps = λ other is apart. (released.1 other (between other is)).1 ∙ one.others other (with_leaf old [] key fits other is) apart;
         };
       },
-      one.4,
+      one.few,
     )
 
 pub own_way_is_own : OwnWayIsOwn

@@ -238,7 +238,17 @@ pub makes_way_own : MakesWayOwn
 makes_way_own outside hand space owner first last way taken held is_space space_owner is_way short top made =
     let d = descend outside hand space owner made (record { held = held; is_space = is_space; space_owner = space_owner; is_way = tt; own = tt })
     is_way short top in
-    (d.end.held, d.end.own, (d.node, d.ends), d.spaces, d.maps, d.owners, d.few, d.unchanged)
+    record {
+      held = d.end.held;
+      own = d.end.own;
+      node = d.node;
+      ends = d.ends;
+      spaces = d.spaces;
+      maps = d.maps;
+      owners = d.owners;
+      few = d.few;
+      unchanged = d.unchanged;
+    }
 
 leaf_low : (key : Key) → FitsUnder 1 key → key_height key < 5
 leaf_low (Segment node height) fits = let next = fits.1 in omega arith
@@ -326,18 +336,19 @@ changes_one_page outside hand space owner first last page node key taken held is
     } in
     let one = write_changes_one_map last outside (key ∷ hand) space page node key d.end.held.sound d.end.held.exact d.end.is_space below d.end.own ends in
     let end = own_end last outside (key ∷ hand) space node (node_way page) d.end.held.sound d.end.held.exact d.end.is_space (way_of_node page) d.end.own ends in
-    let few = d.few in (
-      write_keeps_held last outside hand (place_of node (page % 16)) key d.end.held may belongs,
-      one.0 ∙ ap (λ map. with_at map page (mapping_of key)) (d.maps space is_space),
-      λ other is apart. one.1 other ((d.spaces other).0 is) apart ∙ d.maps other is,
-      λ other is. space_written last hand (place_of node (page % 16)) key fits other ((d.spaces other).0 is),
-      omega arith,
-      λ counted.
+    let few = d.few in
+    record {
+      held = write_keeps_held last outside hand (place_of node (page % 16)) key d.end.held may belongs;
+      here = one.0 ∙ ap (λ map. with_at map page (mapping_of key)) (d.maps space is_space);
+      others = λ other is apart. one.1 other ((d.spaces other).0 is) apart ∙ d.maps other is;
+      spaces = λ other is. space_written last hand (place_of node (page % 16)) key fits other ((d.spaces other).0 is);
+      few = omega arith;
+      own = λ counted.
           let o = once last key counted in
           rw page_way-parts (
             counted_once (with_key last (place_of node (page % 16)) key)
                 (key_along (with_at last.keys (place_of node (page % 16)) key) (space_key space) (page % 16 ∷ node_way page)) o.object
                 (ap named (this_way last.keys space node (page % 16) (node_way page) key end (omega arith)) ∙ o.names_it) o.counted,
             own_kept last space node (page % 16) (node_way page) key end (omega arith) (node_way page) (way_of_node page) (omega arith) d.end.own,
-          ),
-    )
+          );
+    }

@@ -70,7 +70,7 @@ space_of forest outside hand space held owned out =
 way_5_held : Held way_5 one_outside []
 unfolding one_space nothing_yet with_object
 way_5_held = (makes_way_own one_outside [] 1 OfProcess one_space way_5 (0 ∷ 0 ∷ 0 ∷ 1 ∷ []) 4 one_space_held one_is_space refl
-    (omega arith, (omega arith, (omega arith, (omega arith, tt)))) (omega arith) (omega arith) way_made).0
+    (omega arith, (omega arith, (omega arith, (omega arith, tt)))) (omega arith) (omega arith) way_made).held
 
 page_taken_held : Held page_taken one_outside (page_7 ∷ [])
 unfolding page_taken way_5 way_4 way_3 way_2 one_space nothing_yet one_outside with_object and_outside in_hand
@@ -157,7 +157,7 @@ way_10_held : Held way_10 both_outside []
 unfolding both_outside shared child_raised second_root one_page page_taken way_5 way_4 way_3 way_2 one_space nothing_yet one_outside at with_at with_object and_outside in_hand filled copied_count count_below
 way_10_held = (makes_way_own both_outside [] 1 OfProcess shared way_10 (0 ∷ 0 ∷ 0 ∷ 0 ∷ []) 4 both_held
     (space_of shared both_outside [] 1 both_held refl (omega arith)) refl
-    (omega arith, (omega arith, (omega arith, (omega arith, tt)))) (omega arith) (omega arith) private_made).0
+    (omega arith, (omega arith, (omega arith, (omega arith, tt)))) (omega arith) (omega arith) private_made).held
 
 private_taken_held : Held private_taken both_outside (page_11 ∷ [])
 unfolding private_taken way_10 way_9 way_8 way_7 both_outside shared child_raised second_root one_page page_taken way_5 way_4 way_3 way_2 one_space nothing_yet one_outside at with_at with_object and_outside in_hand filled copied_count count_below

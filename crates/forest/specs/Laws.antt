@@ -7,7 +7,7 @@ use Rattle.forest.specs.Objects.{Object, PageObject, NodeObject, Owner, named, w
 use Rattle.forest.specs.Walks.{key_below, IsWay, page_way, Mapping, mapping_of, map_of, place_of, space_key}
 use Rattle.forest.specs.Forest.{Forest, Exact, Sound, IsSpace, OwnWay, CountedOnce, EndsAt, NobodyNames, in_hand, namings, node_way, FitsBelow, FitsUnder, key_height, IsRoot, masked, IsFilled, NoneEmpty, NoneEmptyBut, Held, NoPageOutside, top_digit}
 use Rattle.forest.specs.Changes.{raised, lowered, with_key, with_taken, with_given, and_outside, filled, with_fresh, with_copy, IsFree, MayStand, BelongsAt, WithRoot}
-use Rattle.forest.specs.Descent.{MadeOwn}
+use Rattle.forest.specs.Descent.{MadeOwn, IsMadeOwn, IsPageChanged}
 use Rattle.forest.specs.Release.{Release}
 use Rattle.forest.specs.Labels.{IsIn, different, labels, TellsAlike, shared_page, IsProcessSpace, places_of, is_process}
 use Rattle.forest.specs.Mapped.{mapped, pages_below}
@@ -143,22 +143,14 @@ CopyMakesOwn =
     → OwnWay (with_copy forest (place_of node digit) fresh height owner) space (digit ∷ way)
     × EndsAt (with_copy forest (place_of node digit) fresh height owner).keys space (digit ∷ way) (NodeObject fresh)
 
--- Down a way of at most four digits: it is made this space's own in all its nodes. All that holds of the forest goes on to
--- hold, the spaces are the same and keep their maps, at most as many nodes are taken as the way has digits, and where the
--- way was this space's own before, nothing changes.
+-- A way of at most four digits is made a space's own, level by level.
 abbrev pub MakesWayOwn : Type 0
 MakesWayOwn =
     (outside : Object → ℕ) (hand : List Key) (space : ℕ) (owner : Owner) (first last : Forest) (way : List ℕ) (taken : ℕ)
     → Held first outside hand → IsSpace first hand space → first.owner (NodeObject space) ≡ Some owner
     → IsWay way → length way ≤ 4 → top_digit way < 8
     → MadeOwn outside hand space owner first way last taken
-    → Held last outside hand × OwnWay last space way
-    × ((node : ℕ) × EndsAt last.keys space way (NodeObject node))
-    × ((other : ℕ) → IsSpace first hand other ↔ IsSpace last hand other)
-    × ((other : ℕ) → IsSpace first hand other → map_of last.keys other ≡ map_of first.keys other)
-    × ((object : Object) → IsSome (first.owner object) → last.owner object ≡ first.owner object)
-    × (taken ≤ length way)
-    × (OwnWay first space way → (taken ≡ 0) × (last ≡ first))
+    → IsMadeOwn outside hand space first last way taken
 
 -- Releasing keeps counts exact, and leaves every other space its map.
 abbrev pub ReleaseKeepsSpaces : Type 0
@@ -279,10 +271,8 @@ PageMayStand =
     → OwnWay forest space (node_way page) → EndsAt forest.keys space (node_way page) (NodeObject node)
     → FitsUnder 1 key → MayStand forest hand (place_of node (page % 16)) key
 
--- A page of a space is changed: the way to it is made this space's own, and a key in hand is written at its end. The map of
--- this space changes at this page number, the spaces are the same, every other one keeps its map, at most four nodes are
--- taken, and the key that stood there is in hand. Where the new key's object is counted once, the whole way is this
--- space's own.
+-- A page of a space is changed: the way to it is made this space's own, and a key in hand is written at its end. The key
+-- that stood there is in hand.
 abbrev pub ChangesOnePage : Type 0
 ChangesOnePage =
     (outside : Object → ℕ) (hand : List Key) (space : ℕ) (owner : Owner) (first last : Forest) (page node : ℕ) (key : Key) (taken : ℕ)
@@ -290,14 +280,8 @@ ChangesOnePage =
     → page < 2 ^ 19 → FitsUnder 1 key → ((object : Object) → named key ≡ Some object → first.owner object ≡ Some owner)
     → MadeOwn outside (key ∷ hand) space owner first (node_way page) last taken
     → EndsAt last.keys space (node_way page) (NodeObject node)
-    → Held (with_key last (place_of node (page % 16)) key) outside (at last.keys (place_of node (page % 16)) ∷ hand)
-    × (map_of (with_key last (place_of node (page % 16)) key).keys space ≡ with_at (map_of first.keys space) page (mapping_of key))
-    × ((other : ℕ) → IsSpace first (key ∷ hand) other → other ≢ space
-    → map_of (with_key last (place_of node (page % 16)) key).keys other ≡ map_of first.keys other)
-    × ((other : ℕ) → IsSpace first (key ∷ hand) other
-    → IsSpace (with_key last (place_of node (page % 16)) key) (at last.keys (place_of node (page % 16)) ∷ hand) other)
-    × (taken ≤ 4)
-    × (CountedOnce last key → OwnWay (with_key last (place_of node (page % 16)) key) space (page_way page))
+    → IsPageChanged outside (key ∷ hand) (at last.keys (place_of node (page % 16)) ∷ hand) space page key first last
+    (with_key last (place_of node (page % 16)) key) taken
 
 -- A node that has become empty is pruned: its key is taken from its place, and it is given back. All spaces stay, and keep
 -- their maps.
