@@ -1,17 +1,19 @@
 -- Which nodes may be empty.
-use Rattle.std.proofs.Common.{◌≡◌, ◌≢◌, ◌<◌, ◌≤◌, ◌-◌, ◌/◌, ◌%◌, ℕ, Some, None, List, [], length, refl, ap, sym, ◌∙◌, arith, ⊎_elim}
+use Rattle.std.proofs.Common.{◌≡◌, ◌≢◌, ◌<◌, ◌≤◌, ◌-◌, ◌/◌, ◌%◌, ℕ, Some, None, List, [], length, refl, ap, sym, ◌∙◌, arith, ⊎_elim, zero, suc, ◌==◌}
 use Rattle.std.proofs.lemmas.Bool.{cases_eq}
 use Rattle.kn_base.specs.declared.key.Key.{Key}
-use Rattle.kn_base.specs.declared.key.Key.TheVariants.{Null, Segment}
+use Rattle.kn_base.specs.declared.key.Key.TheVariants.{Null, Page, Segment}
 use Rattle.unix_model.specs.Tables.{at, with_at}
 use Rattle.unix_model.proofs.TableLaws.{at-with_at, at-with_at-other}
 use Rattle.forest.specs.Objects.{Object, NodeObject, Owner, named}
 use Rattle.forest.specs.Walks.{place_of, key_along, space_key, IsWay}
-use Rattle.forest.specs.Forest.{Forest, top_digit, EndsAt, IsFilled, NoneEmpty, NoneEmptyBut}
+use Rattle.forest.specs.Forest.{FitsUnder, Forest, Sound, top_digit, EndsAt, IsFilled, NoneEmpty, NoneEmptyBut}
 use Rattle.forest.specs.Changes.{with_fresh}
 use Rattle.forest.specs.Descent.{MadeOwn, root, kept, copied}
-use Rattle.forest.specs.Laws.{DescentLeavesLastEmpty, WriteFills, TakingAwayEmpties, PruningEmptiesAbove, WriteElsewhereKeepsFilled}
+use Rattle.forest.specs.Calls.{IsPart}
+use Rattle.forest.specs.Laws.{DescentLeavesLastEmpty, WriteFills, TakingAwayEmpties, PruningEmptiesAbove, WriteElsewhereKeepsFilled, SpacesAreWellFormed}
 use Rattle.forest.proofs.WalkLaws.{step}
+use Rattle.forest.proofs.MapLaws.{page_no_node}
 use Rattle.forest.proofs.CopyHeld.{Copied, copied_at, here, inside, elsewhere}
 use Rattle.forest.proofs.CopyLaws.{copy_makes_own}
 use Rattle.forest.proofs.DescentLaws.{leaf_names_page, AtEnd, descend, shorter_top}
@@ -117,3 +119,30 @@ write_elsewhere_keeps_filled keys place key nobody not_itself none key_filled p 
     let was = ap named (sym (at-with_at-other keys place p key t)) ∙ h in
     filled_still keys place key m (λ u. nobody p (was ∙ ap (λ n. Some (NodeObject n)) u)) (none p m was))
     (cases_eq p place)
+
+-- what stands below a key that fits at its place
+all_below : (forest : Forest) → Sound forest → NoneEmpty forest.keys → (height place : ℕ) → FitsUnder height (at forest.keys place) → IsPart forest.keys height (at forest.keys place)
+all_below forest sound none zero place fits = tt
+all_below forest sound none (suc height) place fits =
+    (fits, λ node e. (none place node e, λ digit below. all_below forest sound none height (place_of node digit) (next_fits node digit below e (at forest.keys place) refl)))
+  where
+    next_fits : (node digit : ℕ) → digit < 16 → named (at forest.keys place) ≡ Some (NodeObject node) → (key : Key) → at forest.keys place ≡ key
+        → FitsUnder height (at forest.keys (place_of node digit))
+    next_fits node digit below e (Segment n low) is =
+        let same : n.0 ≡ node = (let s : Some (NodeObject n.0) ≡ Some (NodeObject node) = ap named (sym is) ∙ e in cc) in
+        let fits_here : FitsUnder (suc height) (Segment n low) = rw is at fits in
+        let next = fits_here.1 in
+        let level : low ≡ height = omega arith in
+        let lower = sound.heights place digit below in
+        let lower_here : FitsUnder low (at forest.keys (place_of n.0 digit)) = rw is at lower in
+        rw (same, level) at lower_here
+    next_fits node digit below e (Page p w) is = absurd (page_no_node p.0 node (p.0 == 0) (ap named (sym is) ∙ e))
+    next_fits node digit below e _ is = absurd (let contra : None ≡ Some (NodeObject node) = ap named (sym is) ∙ e in cc)
+
+pub spaces_are_well_formed : SpacesAreWellFormed
+spaces_are_well_formed forest outside hand space held none is =
+    let root = held.rooted space is in
+    record {
+      parts = λ digit small. all_below forest held.sound none 5 (place_of space digit) (root.parts digit small);
+      unused = root.unused;
+    }

@@ -1,8 +1,11 @@
 -- What calls on spaces do, in the words of a forest and of maps. Between calls no key is in hand.
-use Rattle.std.specs.Prelude.{◌≡◌, ◌≢◌, ℕ, Option, Some, None, []}
-use Rattle.forest.specs.Objects.{NodeObject}
-use Rattle.forest.specs.Walks.{Mapping, map_of}
-use Rattle.forest.specs.Forest.{Forest, IsSpace}
+use Rattle.std.specs.Prelude.{◌<◌, ◌≤◌, zero, suc, ⊤, ◌≡◌, ◌≢◌, ℕ, Option, Some, None, []}
+use Rattle.kn_base.specs.declared.key.Key.{Key}
+use Rattle.kn_base.specs.declared.key.Key.TheVariants.{Null}
+use Rattle.unix_model.specs.Tables.{at}
+use Rattle.forest.specs.Objects.{NodeObject, named}
+use Rattle.forest.specs.Walks.{Mapping, map_of, place_of}
+use Rattle.forest.specs.Forest.{Forest, IsSpace, FitsUnder, IsFilled}
 
 -- every other space stays one and keeps its map
 pub record KeepsOthers (old new : Forest) (space : ℕ) : Type 0 where
@@ -34,3 +37,17 @@ pub record IsOwn (forest : Forest) (space page : ℕ) (found : Mapping) : Type 0
   pub real : found.page ≢ 0
   pub alone : (other number : ℕ) (other_found : Mapping) → IsSpace forest [] other → map_of forest.keys other number ≡ Some other_found
       → other_found.page ≡ found.page → (other ≡ space) × (number ≡ page)
+
+-- A key at a place of a node of a height, and all that stands below it: heights fall by one down to pages, and no node is
+-- empty.
+abbrev pub IsPart : (ℕ → Key) → ℕ → Key → Type 0
+IsPart keys zero key = ⊤
+IsPart keys (suc height) key =
+    FitsUnder (suc height) key
+    × ((node : ℕ) → named key ≡ Some (NodeObject node)
+    → IsFilled keys node × ((digit : ℕ) → digit < 16 → IsPart keys height (at keys (place_of node digit))))
+
+-- A well-formed space: its root has eight parts, and seven Null keys behind them.
+pub record IsWellFormed (keys : ℕ → Key) (space : ℕ) : Type 0 where
+  pub parts : (digit : ℕ) → digit < 8 → IsPart keys 5 (at keys (place_of space digit))
+  pub unused : (digit : ℕ) → 8 ≤ digit → digit < 15 → at keys (place_of space digit) ≡ Null

@@ -5,13 +5,13 @@ use Rattle.kn_base.specs.declared.key.Key.TheVariants.{Null, Segment}
 use Rattle.unix_model.specs.Tables.{at, with_at, count_below, sum_below}
 use Rattle.forest.specs.Objects.{Object, PageObject, NodeObject, Owner, named, with_object}
 use Rattle.forest.specs.Walks.{key_below, IsWay, page_way, Mapping, mapping_of, map_of, place_of, space_key}
-use Rattle.forest.specs.Forest.{Forest, Exact, Sound, IsSpace, OwnWay, CountedOnce, EndsAt, NobodyNames, in_hand, namings, node_way, FitsBelow, FitsUnder, key_height, IsRoot, masked, IsFilled, NoneEmpty, NoneEmptyBut, Held, NoPageOutside, top_digit}
+use Rattle.forest.specs.Forest.{Forest, Exact, Sound, IsSpace, OwnWay, EndsAt, NobodyNames, in_hand, namings, node_way, FitsBelow, FitsUnder, key_height, IsRoot, masked, IsFilled, NoneEmpty, NoneEmptyBut, Held, NoPageOutside, top_digit}
 use Rattle.forest.specs.Changes.{raised, lowered, with_key, with_taken, with_given, and_outside, filled, with_fresh, with_copy, IsFree, MayStand, BelongsAt, WithRoot}
 use Rattle.forest.specs.Descent.{MadeOwn, IsMadeOwn, IsPageChanged}
 use Rattle.forest.specs.Release.{Release}
 use Rattle.forest.specs.Labels.{IsIn, different, labels, TellsAlike, shared_page, IsProcessSpace, places_of, is_process}
 use Rattle.forest.specs.Mapped.{mapped, pages_below}
-use Rattle.forest.specs.Calls.{ChangesMap, AddsSpace, DropsSpace, IsOwn}
+use Rattle.forest.specs.Calls.{ChangesMap, AddsSpace, DropsSpace, IsOwn, IsWellFormed}
 
 -- Keys of nodes that belong to no tree are masked out of a forest: writing one leaves the forest as it is, and writing
 -- another one writes it there.
@@ -391,3 +391,9 @@ CallAddsSpace =
     → Sound old → Held new (and_outside outside (space_key fresh)) [] → WithRoot old new fresh content
     → ((digit : ℕ) → digit < 8 → content digit ≡ Null)
     → AddsSpace old new fresh (λ page. None)
+
+-- Each space is well-formed where no node below a root is empty.
+abbrev pub SpacesAreWellFormed : Type 0
+SpacesAreWellFormed =
+    (forest : Forest) (outside : Object → ℕ) (hand : List Key) (space : ℕ)
+    → Held forest outside hand → NoneEmpty forest.keys → IsSpace forest hand space → IsWellFormed forest.keys space

@@ -1,10 +1,15 @@
 //! No node below a root is empty between calls.
 
-ghost use Rattle.forest.specs.Laws.{DescentLeavesLastEmpty, WriteFills, TakingAwayEmpties, ReleaseLeavesNoneEmpty, WriteElsewhereKeepsFilled, PruningEmptiesAbove};
+ghost use Rattle.forest.specs.Laws.{DescentLeavesLastEmpty, SpacesAreWellFormed, WriteFills, TakingAwayEmpties, ReleaseLeavesNoneEmpty, WriteElsewhereKeepsFilled, PruningEmptiesAbove};
 
 /// Going down a way leaves no node empty but the last one.
 pub fn descent_leaves_last_empty()
     ensures { DescentLeavesLastEmpty }
+{}
+
+/// Each space is well-formed where no node below a root is empty.
+pub fn spaces_are_well_formed()
+    ensures { SpacesAreWellFormed }
 {}
 
 /// Writing the key of a page fills its node.

@@ -20,7 +20,7 @@ pub use calls::{
 };
 pub use empty::{
     descent_leaves_last_empty, pruning_empties_above, release_leaves_none_empty,
-    taking_away_empties, write_elsewhere_keeps_filled, write_fills,
+    spaces_are_well_formed, taking_away_empties, write_elsewhere_keeps_filled, write_fills,
 };
 pub use exact::{
     give_is_exact, hand_in_is_exact, hand_out_is_exact, lower_is_exact, raise_is_exact,
