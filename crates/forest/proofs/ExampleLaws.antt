@@ -77,7 +77,7 @@ unfolding page_taken way_5 way_4 way_3 way_2 one_space nothing_yet one_outside w
 page_taken_held = take_keeps_held way_5 one_outside [] page_7 (PageObject 7) OfProcess way_5_held refl
     (record { unowned = refl; none_outside = refl; none_in_hand = refl }) (λ node e. cc)
 
-one_page_held : Held one_page one_outside []
+pub one_page_held : Held one_page one_outside []
 unfolding one_page page_taken way_5 way_4 way_3 way_2 one_space nothing_yet one_outside at with_at with_object and_outside in_hand filled copied_count count_below node_way digits
 one_page_held =
     let is = space_of page_taken one_outside (page_7 ∷ []) 1 page_taken_held refl (omega arith) in
@@ -135,7 +135,7 @@ shared_held =
     let now : Held shared one_outside (Null ∷ space_key 6 ∷ []) = write_keeps_held child_raised one_outside (space_key 6 ∷ []) 97 child child_raised_held may belongs in
     drop_null shared one_outside (space_key 6 ∷ []) now
 
-both_held : Held shared both_outside []
+pub both_held : Held shared both_outside []
 unfolding both_outside shared child_raised second_root one_page page_taken way_5 way_4 way_3 way_2 one_space nothing_yet one_outside at with_at with_object and_outside in_hand filled copied_count count_below
 both_held = hand_out_keeps_held shared one_outside [] (space_key 6) (NodeObject 6) shared_held refl refl
     (λ node e.
@@ -153,7 +153,7 @@ private_made =
     (λ h. h) refl (record { unowned = refl; none_outside = refl; none_in_hand = refl }) (omega arith))
     (λ h. h) refl (record { unowned = refl; none_outside = refl; none_in_hand = refl }) (omega arith)
 
-way_10_held : Held way_10 both_outside []
+pub way_10_held : Held way_10 both_outside []
 unfolding both_outside shared child_raised second_root one_page page_taken way_5 way_4 way_3 way_2 one_space nothing_yet one_outside at with_at with_object and_outside in_hand filled copied_count count_below
 way_10_held = (makes_way_own both_outside [] 1 OfProcess shared way_10 (0 ∷ 0 ∷ 0 ∷ 0 ∷ []) 4 both_held
     (space_of shared both_outside [] 1 both_held refl (omega arith)) refl

@@ -1,27 +1,35 @@
 -- The laws, applied to the small forest.
-use Rattle.std.proofs.Common.{◌≡◌, ◌≢◌, ◌<◌, ◌≤◌, ◌+◌, ℕ, zero, suc, Bool, true, false, Some, None, [], ◌∷◌, refl, sym, ◌∙◌, arith, ⊎_elim, inl, inr, ◌&&◌}
+use Rattle.std.proofs.Common.{◌≡◌, ◌≢◌, ◌<◌, ◌≤◌, ◌+◌, ◌/◌, ◌%◌, ap, None, ℕ, zero, suc, Bool, true, false, Some, [], ◌∷◌, refl, sym, ◌∙◌, arith, ⊎_elim, inl, inr, ◌&&◌}
 use Rattle.std.specs.Option.{IsSome}
-use Rattle.std.proofs.lemmas.Bool.{cases_eq, cases_lt, ne_eqb, and_parts}
+use Rattle.std.proofs.lemmas.Bool.{cases_eq, cases_lt, ne_eqb, and_parts, eq-eqb}
 use Rattle.kn_base.specs.declared.key.Key.{Key}
 use Rattle.kn_base.specs.declared.key.Key.TheVariants.{Null}
 use Rattle.unix_model.specs.Tables.{at, with_at, count_below}
-use Rattle.forest.specs.Objects.{PageObject, NodeObject, with_object}
-use Rattle.forest.specs.Walks.{key_below, space_key, digits, Mapping, map_of}
+use Rattle.forest.specs.Objects.{Object, named, OfProcess, PageObject, NodeObject, with_object}
+use Rattle.forest.specs.Walks.{place_of, key_below, space_key, digits, Mapping, map_of}
 use Rattle.forest.specs.Forest.{Held, IsSpace, in_hand, node_way, NoPageOutside}
-use Rattle.forest.specs.Changes.{and_outside, copied_count, filled}
+use Rattle.forest.specs.Changes.{and_outside, copied_count, filled, WithRoot}
 use Rattle.forest.specs.Release.{shared, take_out, empty_node, Release, done, more}
+use Rattle.forest.specs.Release.{page as given_page}
 use Rattle.forest.specs.Labels.{IsIn, IsProcessSpace, is_process}
-use Rattle.forest.specs.Example.{nothing_yet, one_space, one_outside, way_2, way_3, way_4, way_5, page_taken, one_page, second_root, child, child_raised, both_outside, way_7, way_8, way_9, way_10, private_taken, private, example, key_out, child_lowered, dropped, ExampleShows}
+use Rattle.forest.specs.Example.{nothing_yet, one_space, one_outside, way_2, way_3, way_4, way_5, page_taken, one_page, second_root, child, child_raised, both_outside, way_7, way_8, way_9, way_10, private_taken, private, example, key_out, child_lowered, dropped, ExampleShows, unmapped, pruned, page_11}
 use Rattle.forest.specs.Example.{shared as shared_forest}
 use Rattle.forest.proofs.OwnLaws.{own_page_is_alone}
 use Rattle.forest.proofs.OwnMaps.{write_changes_one_map}
 use Rattle.forest.proofs.ExactLaws.{nobody_counted}
 use Rattle.forest.proofs.MapLaws.{detach_keeps_maps, share_keeps_maps}
 use Rattle.forest.proofs.CopyLaws.{free_unnamed}
-use Rattle.forest.proofs.HeldLaws.{hand_in_keeps_held}
+use Rattle.forest.proofs.HeldLaws.{hand_in_keeps_held, raise_keeps_held, other_object}
 use Rattle.forest.proofs.ReleaseLaws.{release_keeps_spaces, release_gives_unnamed}
+use Rattle.forest.proofs.CallLaws.{call_changes_map, call_drops_space}
+use Rattle.forest.proofs.RootLaws.{call_shares_space}
+use Rattle.forest.proofs.PruneLaws.{prune_keeps_maps}
+use Rattle.std.proofs.Math.Path.{fun_ext}
+use Rattle.unix_model.proofs.TableLaws.{at-with_at-other}
+use Rattle.forest.specs.Descent.{root, kept}
+use Rattle.forest.specs.Calls.{ChangesMap, AddsSpace}
 use Rattle.forest.proofs.LabelLaws.{taken_is_different}
-use Rattle.forest.proofs.ExampleLaws.{space_of, example_holds}
+use Rattle.forest.proofs.ExampleLaws.{space_of, example_holds, one_page_held, both_held, way_10_held}
 
 is_null : Key → Bool
 is_null Null = true
@@ -146,6 +154,81 @@ child_stays : IsSome (dropped.owner (NodeObject 2))
 unfolding dropped child_lowered key_out example private private_taken way_10 way_9 way_8 way_7 both_outside shared_forest child_raised second_root one_page page_taken way_5 way_4 way_3 way_2 one_space nothing_yet one_outside at with_at with_object and_outside in_hand filled copied_count count_below
 child_stays = refl
 
+-- keys of which those of one node have changed
+filled_self : (keys new : ℕ → Key) (node : ℕ) → ((place : ℕ) → place / 16 ≢ node → at new place ≡ at keys place)
+    → new ≡ filled keys node (λ digit. at new (place_of node digit))
+unfolding at filled
+filled_self keys new node same = fun_ext (λ place. ⊎_elim
+    (λ (t : place / 16 ≡ node).
+    let split : place_of node (place % 16) ≡ place = omega arith in
+    rw (eq-eqb (place / 16) node t, split) refl)
+    (λ (t : place / 16 ≢ node). rw (ne_eqb (place / 16) node t) (same place t))
+    (cases_eq (place / 16) node))
+
+below_8 : (P : ℕ → Type 0) → P 0 → P 1 → P 2 → P 3 → P 4 → P 5 → P 6 → P 7 → (digit : ℕ) → digit < 8 → P digit
+below_8 P a b c d e f g h zero small = a
+below_8 P a b c d e f g h (suc zero) small = b
+below_8 P a b c d e f g h (suc (suc zero)) small = c
+below_8 P a b c d e f g h (suc (suc (suc zero))) small = d
+below_8 P a b c d e f g h (suc (suc (suc (suc zero)))) small = e
+below_8 P a b c d e f g h (suc (suc (suc (suc (suc zero))))) small = f
+below_8 P a b c d e f g h (suc (suc (suc (suc (suc (suc zero)))))) small = g
+below_8 P a b c d e f g h (suc (suc (suc (suc (suc (suc (suc zero))))))) small = h
+below_8 P a b c d e f g h (suc (suc (suc (suc (suc (suc (suc (suc digit)))))))) small = absurd (omega arith)
+
+root_keys : ℕ → Key
+root_keys digit = at shared_forest.keys (place_of 6 digit)
+
+shared_elsewhere : (place : ℕ) → place ≢ 97 → at shared_forest.keys place ≡ at one_page.keys place
+unfolding shared_forest child_raised second_root
+shared_elsewhere place apart = at-with_at-other one_page.keys 97 place child apart
+
+no_key_6 : (digit : ℕ) → digit < 16 → at one_page.keys (place_of 6 digit) ≡ Null
+unfolding example private private_taken way_10 way_9 way_8 way_7 both_outside shared_forest child_raised second_root one_page page_taken way_5 way_4 way_3 way_2 one_space nothing_yet one_outside at with_at with_object and_outside in_hand filled copied_count count_below
+no_key_6 digit below =
+    let is : place_of 6 digit / 16 ≡ 6 = omega arith in
+    one_page_held.sound.masked (place_of 6 digit) (ap (λ n. one_page.owner (NodeObject n)) is)
+
+shared_owners : (object : Object) → object ≢ NodeObject 6 → shared_forest.owner object ≡ one_page.owner object
+unfolding shared_forest child_raised second_root
+shared_owners object differs = other_object one_page.owner (NodeObject 6) (Some OfProcess) object differs
+
+second_added : WithRoot one_page shared_forest 6 root_keys
+unfolding root_keys example private private_taken way_10 way_9 way_8 way_7 both_outside shared_forest child_raised second_root one_page page_taken way_5 way_4 way_3 way_2 one_space nothing_yet one_outside at with_at with_object and_outside in_hand filled copied_count count_below
+second_added = record {
+  was_free = refl;
+  now_owned = refl;
+  same_owners = shared_owners;
+  keys = filled_self one_page.keys shared_forest.keys 6 (λ place apart. shared_elsewhere place (λ e. apart (omega arith)));
+  rest = λ digit large below. ap named (shared_elsewhere (place_of 6 digit) (λ e. omega arith) ∙ no_key_6 digit below);
+}
+
+same_children : (digit : ℕ) → digit < 8 → root_keys digit ≡ at one_page.keys (place_of 1 digit)
+unfolding root_keys example private private_taken way_10 way_9 way_8 way_7 both_outside shared_forest child_raised second_root one_page page_taken way_5 way_4 way_3 way_2 one_space nothing_yet one_outside at with_at with_object and_outside in_hand filled copied_count count_below
+same_children = below_8 (λ digit. root_keys digit ≡ at one_page.keys (place_of 1 digit)) refl refl refl refl refl refl refl refl
+
+call_shares : AddsSpace one_page shared_forest 6 (map_of one_page.keys 1)
+unfolding both_outside
+call_shares = call_shares_space one_outside 1 6 one_page shared_forest root_keys one_page_held.sound both_held second_added (λ e. omega arith) same_children
+
+call_unmaps : ChangesMap example unmapped 1 (with_at (map_of example.keys 1) 0 None)
+unfolding unmapped node_way digits example private private_taken way_10 way_9 way_8 way_7 both_outside shared_forest child_raised second_root one_page page_taken way_5 way_4 way_3 way_2 one_space nothing_yet one_outside at with_at with_object and_outside in_hand filled copied_count count_below
+call_unmaps =
+    let with_null : Held example both_outside (Null ∷ []) = raise_keeps_held example both_outside [] Null example_holds.held
+    (λ object h. absurd (let contra : None ≡ Some object = h in cc)) in
+    (call_changes_map both_outside 1 OfProcess example example unmapped 0 10 Null 0 with_null example_holds.first refl (omega arith) tt
+    (λ object h. absurd (let contra : None ≡ Some object = h in cc))
+    (kept 0 (kept 0 (kept 0 (kept 0 root refl) refl) refl) refl) refl
+    (more (given_page page_11 11 refl refl) done)).1
+
+held_pruned : Held pruned both_outside []
+unfolding pruned all_null is_null example private private_taken way_10 way_9 way_8 way_7 both_outside shared_forest child_raised second_root one_page page_taken way_5 way_4 way_3 way_2 one_space nothing_yet one_outside at with_at with_object and_outside in_hand filled copied_count count_below
+held_pruned = (prune_keeps_maps way_10 both_outside [] 144 10 way_10_held refl refl (nulls way_10.keys 160 16 refl)).0
+
+once_6 : example.count (NodeObject 6) ≡ 1
+unfolding example private private_taken way_10 way_9 way_8 way_7 both_outside shared_forest child_raised second_root one_page page_taken way_5 way_4 way_3 way_2 one_space nothing_yet one_outside at with_at with_object and_outside in_hand filled copied_count count_below
+once_6 = refl
+
 pub example_shows : ExampleShows
 example_shows =
     let released = release_keeps_spaces example dropped one_outside (space_key 6 ∷ []) [] second_in_hand dropped_release in
@@ -158,6 +241,10 @@ example_shows =
       held_dropped = released.0;
       first_stays = (released.1 1 first_is).1;
       root_given = root_given;
+      call_shares = call_shares;
+      call_unmaps = call_unmaps;
+      held_pruned = held_pruned;
+      call_drops = (call_drops_space one_outside 6 example dropped second_in_hand once_6 dropped_release).1;
       child_named = (release_gives_unnamed example dropped one_outside (space_key 6 ∷ []) [] second_in_hand dropped_release (NodeObject 2) child_owned).0 child_stays;
       two_pages = sym (taken_is_different example both_outside 12 (1 ∷ 6 ∷ []) example_holds.held no_page_outside few_pages
           (λ space. (listed space, λ is. both_spaces space is.0))) ∙ two_taken;

@@ -8,6 +8,7 @@ use Rattle.forest.specs.Objects.{Object, PageObject, NodeObject, OfProcess}
 use Rattle.forest.specs.Walks.{space_key, key_below, page_way, Mapping, map_of}
 use Rattle.forest.specs.Forest.{Forest, Held, IsSpace, OwnWay, namings, in_hand}
 use Rattle.forest.specs.Changes.{raised, with_count, with_key, with_taken, with_given, with_copy, filled, and_outside}
+use Rattle.forest.specs.Calls.{ChangesMap, AddsSpace, DropsSpace}
 use Rattle.forest.specs.Labels.{different, labels, shared_page, places_of}
 
 -- sixteen nodes, of which none belongs to a tree
@@ -112,6 +113,14 @@ child_lowered = with_count key_out (NodeObject 2) 1
 unfoldable pub dropped : Forest
 dropped = with_given child_lowered (NodeObject 6)
 
+-- page 11 is taken away by a call: its key goes from its place, and it is given back
+unfoldable pub unmapped : Forest
+unmapped = with_given (with_key example 160 Null) (PageObject 11)
+
+-- node 10 is pruned, before page 11 is mapped in it
+unfoldable pub pruned : Forest
+pruned = with_given (with_key way_10 144 Null) (NodeObject 10)
+
 -- what the laws say of the example
 pub record ExampleShows : Type 0 where
   -- page 11 is mapped by the first space at page number 0 alone
@@ -131,3 +140,8 @@ pub record ExampleShows : Type 0 where
   pub child_named : 1 ≤ namings dropped (NodeObject 2) + one_outside (NodeObject 2) + in_hand [] (NodeObject 2)
   -- two pages are taken
   pub two_pages : different (labels (shared_page example.keys) (places_of (1 ∷ 6 ∷ []))) ≡ 2
+  -- and as calls: sharing, taking a page away, pruning, dropping a space
+  pub call_shares : AddsSpace one_page shared 6 (map_of one_page.keys 1)
+  pub call_unmaps : ChangesMap example unmapped 1 (with_at (map_of example.keys 1) 0 None)
+  pub held_pruned : Held pruned both_outside []
+  pub call_drops : DropsSpace example dropped 6
