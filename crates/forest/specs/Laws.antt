@@ -114,8 +114,7 @@ ShareKeepsMaps =
     → (map_of (filled keys fresh content) fresh ≡ map_of keys space)
     × ((other : ℕ) → other ≢ fresh → map_of (filled keys fresh content) other ≡ map_of keys other)
 
--- The keys of a node that nobody names may be any: every other space keeps its map. So does it when such a node is taken
--- or given back.
+-- The keys of a node that nobody names may be any: every other space keeps its map.
 abbrev pub UnnamedKeepsMaps : Type 0
 UnnamedKeepsMaps =
     (keys content : ℕ → Key) (node : ℕ)
@@ -305,8 +304,7 @@ ShareKeepsHeld =
     → Held (with_key (raised forest (at forest.keys from)) (place_of fresh digit) (at forest.keys from)) outside hand
 
 -- A call that changes a page of a space: with the new key in hand the way is made this space's own, the key is written, and
--- the key that stood there is released. This space's map changes at this page number, and the page is own where the key
--- names one that is counted once.
+-- the key that stood there is released. This space's map changes at this page number, and nothing else.
 abbrev pub CallChangesMap : Type 0
 CallChangesMap =
     (outside : Object → ℕ) (space : ℕ) (owner : Owner) (old last new : Forest) (page node : ℕ) (key : Key) (taken : ℕ)
