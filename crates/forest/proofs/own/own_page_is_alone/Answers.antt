@@ -1,0 +1,5 @@
+use Rattle.forest.proofs.OwnLaws.{own_page_is_alone}
+use Rattle.forest.proofs.own.own_page_is_alone.Goals as goal
+
+pub returns : goal.returns
+returns c = own_page_is_alone

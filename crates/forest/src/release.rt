@@ -1,0 +1,18 @@
+//! Releasing keys: counts are lowered, and what nothing names any more is given back.
+
+ghost use Rattle.forest.specs.Laws.{ReleaseKeepsSpaces, ReleaseGivesUnnamed, ReleaseGoesDown};
+
+/// Releasing keeps counts exact, and every other space stays one and keeps its map.
+pub fn release_keeps_spaces()
+    ensures { ReleaseKeepsSpaces }
+{}
+
+/// Releasing gives back exactly the nodes and pages that nothing names any more.
+pub fn release_gives_unnamed()
+    ensures { ReleaseGivesUnnamed }
+{}
+
+/// A key that releasing takes out of a node stands lower than the node, so its height is a measure of the recursion.
+pub fn release_goes_down()
+    ensures { ReleaseGoesDown }
+{}
