@@ -1,0 +1,3 @@
+pub mod FreeListLaws
+pub mod EntryLaws
+pub mod BankLaws

@@ -1,0 +1,20 @@
+use Rattle.std.proofs.Common.{◌≡◌, ◌<◌, ◌≤◌, ◌∙◌, sym, ap, subst, arith}
+use Rattle.kernel_tables.specs.Kernel.{Kernel, kernel_of, first_page}
+use Rattle.space_bank.specs.Bank.{BankGood, IsFirstFree, TakesPage}
+use Rattle.space_bank.proofs.BankLaws.{bank_good-page_taken}
+use Rattle.space_bank.proofs.pages.take_page.Goals as goal
+
+pub overflow_add-result : goal.overflow_add-result
+unfolding first_page
+overflow_add-result g c =
+    let kernel = kernel_of (g.T.Store.memory c.args.store.now) in
+    let size : c.bank_size.result ≡ kernel.size = c.bank_size.ensures ∙ ap (λ (k : Kernel). k.size) c.use_page.ensures.written in
+    let small = c.requires.sized.most in
+    let inside : c.in-Some.n < kernel.size = c.in-Some.ensures.first.inside in
+    omega arith
+
+pub returns-in-Some-clause-good : goal.returns-in-Some-clause-good
+returns-in-Some-clause-good g c =
+    let kernel = kernel_of (g.T.Store.memory c.args.store.now) in
+    subst BankGood (sym c.use_page.ensures.written)
+    (bank_good-page_taken kernel c.in-Some.n c.args.owner c.in-Some.ensures.first c.requires)
