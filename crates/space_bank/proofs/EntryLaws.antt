@@ -1,9 +1,9 @@
 -- What taking and giving an object leave of the entries, the pages and the nodes of the bank.
-use Rattle.std.proofs.Common.{◌≡◌, ◌≢◌, ℕ, ◌+◌, ◌-◌, ◌*◌, ◌/◌, ◌^◌, ◌<◌, ◌≤◌, ◌==◌, ◌&&◌, ◌||◌, Bool, true, false, nat_lt, Option, Some, None, List, [], ◌∷◌, length, set, get_or, replicate, refl, ap, sym, subst, ◌∙◌, ⊎_elim, arith}
+use Rattle.std.proofs.Common.{◌≡◌, ◌≢◌, ℕ, ◌+◌, ◌-◌, ◌*◌, ◌^◌, ◌<◌, ◌≤◌, ◌&&◌, Bool, true, false, nat_lt, Option, Some, None, List, [], length, set, get_or, replicate, refl, ap, sym, subst, ◌∙◌, ⊎_elim, arith}
 use Rattle.std.proofs.Math.Bool.{and-false}
-use Rattle.std.proofs.lemmas.List.{get_or-set_same, get_or-set_other, get_or_past, length-set, length-replicate, get_or-replicate}
+use Rattle.std.proofs.lemmas.List.{get_or-set_same, get_or-set_other, length-set, length-replicate, get_or-replicate}
 use Rattle.std.proofs.lemmas.List.Sums.{sum_by-set}
-use Rattle.std.proofs.lemmas.Bool.{cases_eq, cases_lt, lt-ltb, ltb-true}
+use Rattle.std.proofs.lemmas.Bool.{cases_eq, cases_lt}
 use Rattle.kn_base.specs.declared.key.Key.{Key}
 use Rattle.kn_base.specs.declared.key.Key.TheVariants.{Null}
 use Rattle.kn_base.specs.Rows.{overwritten}
@@ -14,9 +14,9 @@ use Rattle.kernel_tables.specs.declared.entry.PageOwner.TheVariants.{Memory, Fil
 use Rattle.kernel_tables.specs.declared.entry.NodeOwner.{NodeOwner}
 use Rattle.kernel_tables.specs.declared.entry.Entry.{Entry}
 use Rattle.kernel_tables.specs.declared.entry.Entry.TheVariants.{Free, Taken, Fixed, Unspelled}
-use Rattle.kernel_tables.specs.Kernel.{Kernel, first_page, entry_pages}
-use Rattle.space_bank.specs.FreeList.{entry_at, is_free, next_of, shares, is_free_at, taken_one, IsFreeList, taken_count}
-use Rattle.space_bank.specs.Bank.{EntriesGood, PagesGood, NodesGood, BankGood, IsFirstFree, memory_one, memory_taken_one, memory_count, page_taken}
+use Rattle.kernel_tables.specs.Kernel.{first_page}
+use Rattle.space_bank.specs.FreeList.{entry_at, is_free, next_of, shares, taken_one, IsFreeList, taken_count}
+use Rattle.space_bank.specs.Bank.{EntriesGood, PagesGood, NodesGood, IsFirstFree, memory_one, memory_taken_one, memory_count}
 use Rattle.space_bank.proofs.FreeListLaws.{entry_inside, free_list-taken, free_list-given, taken_count-set, taken_count-few, sum_by-few}
 
 -- what holds of an entry that is written and of each other one
@@ -178,4 +178,108 @@ pages_good-given size entries first taken memory bank n below some was_taken goo
           (λ same h.
           ap (λ k. get_or (set bank n zero_page) k []) (sym same) ∙ get_or-set_same bank n zero_page [] (omega arith))
           (λ other h. get_or-set_other bank n m zero_page [] (λ e. other (sym e)) ∙ good.zeros m h);
+    }
+
+-- a taken object is counted
+pub taken-some : {O : Type 0} (entries : List (Entry O)) (base count first taken n : ℕ) → n < count → taken_one (entry_at entries n) ≡ 1 → EntriesGood entries base count first taken → 1 ≤ taken
+taken-some entries base count first taken n below was_taken good =
+    let inside : n < length entries = entry_inside entries n (good.spelled n below) in
+    let counted = taken_count-set entries n (Free 0) inside in
+    let e = good.number in
+    omega arith
+
+pub memory-some : (size : ℕ) (entries : List (Entry PageOwner)) (first taken memory : ℕ) (bank : List (List ℕ)) (n : ℕ) → n < size → PagesGood size entries first taken memory bank → memory_taken_one (entry_at entries n) ≤ memory
+memory-some size entries first taken memory bank n below good =
+    let inside : n < length entries = entry_inside entries n (good.entries_good.spelled n below) in
+    let counted : memory_count (set entries n (Free 0)) + memory_taken_one (entry_at entries n) ≡ memory_count entries + 0 =
+    memory_count-set entries n (Free 0) inside
+    in
+    let e = good.memory_number in
+    omega arith
+
+-- free nodes are no fixed ones
+pub free_node-high : (nodes : ℕ) (entries : List (Entry NodeOwner)) (first taken : ℕ) (keys : List (Option Key)) (n : ℕ) → is_free (entry_at entries n) ≡ true → NodesGood nodes entries first taken keys → 15 ≤ n
+free_node-high nodes entries first taken keys n free good =
+    ⊎_elim
+    (λ (low : n < 15). let no : false ≡ true = sym (ap is_free (good.fixed n low)) ∙ free in cc)
+    (λ (high : 15 ≤ n). high)
+    (cases_lt n 15)
+
+taken_high : (nodes : ℕ) (entries : List (Entry NodeOwner)) (first taken : ℕ) (keys : List (Option Key)) (n : ℕ) → taken_one (entry_at entries n) ≡ 1 → NodesGood nodes entries first taken keys → 15 ≤ n
+taken_high nodes entries first taken keys n was_taken good =
+    ⊎_elim
+    (λ (low : n < 15).
+    let no : 0 ≡ 1 = sym (ap taken_one (good.fixed n low)) ∙ was_taken in absurd (omega arith))
+    (λ (high : 15 ≤ n). high)
+    (cases_lt n 15)
+
+-- the first free node is taken
+pub nodes_good-taken : (nodes : ℕ) (entries : List (Entry NodeOwner)) (first taken : ℕ) (keys : List (Option Key)) (n : ℕ) (owner : NodeOwner) → IsFirstFree entries 0 nodes first n → NodesGood nodes entries first taken keys → NodesGood nodes (set entries n (Taken owner 1)) (next_of (entry_at entries n)) (taken + 1) keys
+nodes_good-taken nodes entries first taken keys n owner head good =
+    let inside : n < length entries = entry_inside entries n (free_spelled (entry_at entries n) head.free) in
+    let high : 15 ≤ n = free_node-high nodes entries first taken keys n head.free good in
+    record {
+      entries_good = entries_good-taken entries 0 nodes first taken n owner head good.entries_good;
+      fixed =
+          λ m low.
+          set_cases (λ e. e ≡ Fixed) entries n m (Taken owner 1) inside (λ same. absurd (omega arith)) (λ other. good.fixed m low);
+      others =
+          λ m past below.
+          set_cases (λ e. e ≢ Fixed) entries n m (Taken owner 1) inside
+          (λ same e. let no : Taken owner 1 ≡ Fixed = e in cc) (λ other. good.others m past below);
+      all_keys = good.all_keys;
+      nulls =
+          λ m k.
+          set_cases (λ e. (nat_lt m nodes && is_free e) ≡ true → k < 16 → get_or keys (16 * m + k) None ≡ Some Null) entries n m
+          (Taken owner 1) inside
+          (λ same h low. let no : false ≡ true = sym (and-false (nat_lt m nodes)) ∙ h in cc) (λ other. good.nulls m k);
+    }
+
+-- sixteen Null keys are written
+nulls_at : (keys : List (Option Key)) (n k : ℕ) → 16 * n + 16 ≤ length keys → k < 16 → get_or (overwritten keys (16 * n) (replicate 16 (Some Null))) (16 * n + k) None ≡ Some Null
+nulls_at keys n k fits low =
+    let long : length (replicate 16 (Some Null)) ≡ 16 = length-replicate {A = Option Key} 16 (Some Null) in
+    let place : 16 * n + k - 16 * n ≡ k = omega arith in
+    get_or-overwritten_in keys (16 * n) (replicate 16 (Some Null)) (16 * n + k) None (omega arith) (omega arith) (omega arith)
+    ∙ ap (λ j. get_or (replicate 16 (Some Null)) j None) place
+    ∙ get_or-replicate {A = Option Key} 16 k (Some Null) None low
+
+nulls_beside : (keys : List (Option Key)) (n m k : ℕ) → 16 * n + 16 ≤ length keys → n ≢ m → k < 16 → get_or (overwritten keys (16 * n) (replicate 16 (Some Null))) (16 * m + k) None ≡ get_or keys (16 * m + k) None
+nulls_beside keys n m k fits other low =
+    let long : length (replicate 16 (Some Null)) ≡ 16 = length-replicate {A = Option Key} 16 (Some Null) in
+    ⊎_elim
+    (λ (below : m < n). get_or-overwritten_below keys (16 * n) (replicate 16 (Some Null)) (16 * m + k) None (omega arith) (omega arith))
+    (λ (above : n ≤ m). get_or-overwritten_above keys (16 * n) (replicate 16 (Some Null)) (16 * m + k) None (omega arith) (omega arith))
+    (cases_lt m n)
+
+-- a taken node is given back
+pub nodes_good-given : (nodes : ℕ) (entries : List (Entry NodeOwner)) (first taken : ℕ) (keys : List (Option Key)) (n : ℕ) → n < nodes → taken_one (entry_at entries n) ≡ 1 → NodesGood nodes entries first taken keys → NodesGood nodes (set entries n (Free first)) n (taken - 1) (overwritten keys (16 * n) (replicate 16 (Some Null)))
+nodes_good-given nodes entries first taken keys n below was_taken good =
+    let inside : n < length entries = entry_inside entries n (good.entries_good.spelled n below) in
+    let high : 15 ≤ n = taken_high nodes entries first taken keys n was_taken good in
+    let all = good.all_keys in
+    let fits : 16 * n + 16 ≤ length keys = omega arith in
+    let long : length (replicate 16 (Some Null)) ≡ 16 = length-replicate {A = Option Key} 16 (Some Null) in
+    let zero_add : 0 + n ≡ n = omega arith in
+    record {
+      entries_good =
+          subst (λ (k : ℕ). EntriesGood (set entries n (Free first)) 0 nodes k (taken - 1)) zero_add
+          (entries_good-given entries 0 nodes first taken n below (omega arith) was_taken good.entries_good);
+      fixed =
+          λ m low.
+          set_cases (λ e. e ≡ Fixed) entries n m (Free first) inside (λ same. absurd (omega arith)) (λ other. good.fixed m low);
+      others =
+          λ m past under.
+          set_cases (λ e. e ≢ Fixed) entries n m (Free first) inside
+          (λ same e. let no : Free first ≡ Fixed = e in cc) (λ other. good.others m past under);
+      all_keys = length-overwritten keys (16 * n) (replicate 16 (Some Null)) (omega arith) ∙ good.all_keys;
+      nulls =
+          λ m k.
+          set_cases
+          (λ e. (nat_lt m nodes && is_free e) ≡ true → k < 16 → get_or (overwritten keys (16 * n) (replicate 16 (Some Null))) (16 * m + k) None ≡ Some Null)
+          entries n m (Free first) inside
+          (λ same h low.
+          ap (λ j. get_or (overwritten keys (16 * n) (replicate 16 (Some Null))) (16 * j + k) None) (sym same)
+          ∙ nulls_at keys n k fits low)
+          (λ other h low. nulls_beside keys n m k fits other low ∙ good.nulls m k h low);
     }

@@ -1,9 +1,10 @@
 -- What the bank keeps of a store: sizes and ranges, exact free lists, the numbers of what is taken, zeros in all that
 -- is free, and share counts.
-use Rattle.std.specs.Prelude.{◌≡◌, ◌≢◌, ℕ, ◌+◌, ◌-◌, ◌*◌, ◌<◌, ◌≤◌, ◌^◌, ◌==◌, Bool, true, false, Option, Some, None, List, [], length, slice_index, slice_index_or, slice_set}
-use Rattle.std.specs.List.{sum_by, count_by}
+use Rattle.std.specs.Prelude.{◌≡◌, ◌≢◌, ℕ, ◌+◌, ◌-◌, ◌*◌, ◌<◌, ◌≤◌, ◌^◌, ◌==◌, true, false, Option, Some, None, List, [], length, slice_index_or, slice_set, replicate, if◌then◌else◌}
+use Rattle.std.specs.List.{sum_by}
 use Rattle.kn_base.specs.declared.key.Key.{Key}
-use Rattle.kn_base.specs.declared.key.Key.TheVariants.{Null, Number, Page, Node, Segment, Start, Resume, Domain, Meter, Service}
+use Rattle.kn_base.specs.declared.key.Key.TheVariants.{Null}
+use Rattle.kn_base.specs.Rows.{overwritten}
 use Rattle.kn_base.specs.Memory.{zero_page}
 use Rattle.kernel_tables.specs.declared.entry.PageOwner.{PageOwner}
 use Rattle.kernel_tables.specs.declared.entry.PageOwner.TheVariants.{Memory, File, Directory, Pipe, Buffer}
@@ -65,7 +66,6 @@ pub record WordsGood (size bank_size quantum position next_pid promised : ℕ) :
   pub least_quantum : 1 ≤ quantum
   pub most_quantum : quantum ≤ 10000
   pub in_round : position < 64 * quantum
-  pub least_pid : 1 ≤ next_pid
   pub most_pid : next_pid ≤ 2 ^ 31
   pub promises : promised ≤ size
 
@@ -106,4 +106,61 @@ abbrev pub page_taken : Kernel → ℕ → PageOwner → Kernel
 page_taken kernel n owner = record kernel {
   machine = record kernel.machine { free_page = next_of (entry_at kernel.page_entries n); memory_taken = kernel.machine.memory_taken + memory_one owner; pages_taken = kernel.machine.pages_taken + 1 };
   page_entries = slice_set kernel.page_entries n (Taken owner 1);
+}
+
+-- entry n is that of an object that is taken and named once
+abbrev pub IsTakenOnce : {O : Type 0} → Entry O → Type 0
+IsTakenOnce (Free next) = ⊥
+IsTakenOnce (Taken owner count) = count ≡ 1
+IsTakenOnce Fixed = ⊥
+IsTakenOnce Unspelled = ⊥
+
+-- the tables after the page of entry n was given back: it is zero and the first of the free list, and the numbers of
+-- what is taken fall
+abbrev pub page_given : Kernel → ℕ → Kernel
+page_given kernel n = record kernel {
+  machine = record kernel.machine { free_page = first_page kernel.size + n; memory_taken = kernel.machine.memory_taken - memory_taken_one (entry_at kernel.page_entries n); pages_taken = kernel.machine.pages_taken - 1 };
+  page_entries = slice_set kernel.page_entries n (Free kernel.machine.free_page);
+  bank = slice_set kernel.bank n zero_page;
+}
+
+-- the tables after node n was taken, and after it was given back
+abbrev pub node_taken : Kernel → ℕ → NodeOwner → Kernel
+node_taken kernel n owner = record kernel {
+  machine = record kernel.machine { free_node = next_of (entry_at kernel.node_entries n); nodes_taken = kernel.machine.nodes_taken + 1 };
+  node_entries = slice_set kernel.node_entries n (Taken owner 1);
+}
+
+abbrev pub node_given : Kernel → ℕ → Kernel
+node_given kernel n = record kernel {
+  machine = record kernel.machine { free_node = n; nodes_taken = kernel.machine.nodes_taken - 1 };
+  node_entries = slice_set kernel.node_entries n (Free kernel.machine.free_node);
+  keys = overwritten kernel.keys (16 * n) (replicate 16 (Some Null));
+}
+
+-- A free node is taken: it holds Null keys, its share count is 1, and the number of taken nodes grows. Which node is free
+-- next isn't said.
+pub record TakesNode (old new : Kernel) (node : ℕ) (owner : NodeOwner) : Type 0 where
+  pub low : 15 ≤ node
+  pub high : node < old.nodes
+  pub was_free : is_free (entry_at old.node_entries node) ≡ true
+  pub nulls : (place : ℕ) → place < 16 → slice_index_or new.keys (16 * node + place) None ≡ Some Null
+  pub state :
+      new
+      ≡ record old {
+        machine = record old.machine { free_node = new.machine.free_node; nodes_taken = old.machine.nodes_taken + 1 };
+        node_entries = slice_set old.node_entries node (Taken owner 1);
+      }
+
+-- a word of the machine page by its place: the bank's size at 0, the quantum at 4, the position at 8, the next process
+-- id at 12
+abbrev pub word_at : Machine → ℕ → ℕ
+word_at machine at =
+    if at == 0 then machine.size else if at == 4 then machine.quantum else if at == 8 then machine.position else machine.next_pid
+
+-- the machine page with another position (at 8) or next process id (at 12)
+abbrev pub with_word_at : Machine → ℕ → ℕ → Machine
+with_word_at machine at value = record machine {
+  position = if at == 8 then value else machine.position;
+  next_pid = if at == 12 then value else machine.next_pid;
 }

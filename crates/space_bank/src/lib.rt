@@ -2,7 +2,11 @@
 #![tactic(auto)]
 
 mod entries;
+mod nodes;
 mod pages;
+mod promises;
 
 pub use kernel_tables::{NodeOwner, PageOwner};
-pub use pages::take_page;
+pub use nodes::{give_node, take_node};
+pub use pages::{give_page, take_page};
+pub use promises::{Taken, machine_word, promise, promised, set_machine_word, taken_of, unpromise};

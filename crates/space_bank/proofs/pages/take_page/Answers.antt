@@ -1,6 +1,6 @@
-use Rattle.std.proofs.Common.{◌≡◌, ◌<◌, ◌≤◌, ◌∙◌, sym, ap, subst, arith}
+use Rattle.std.proofs.Common.{◌≡◌, ◌<◌, ◌∙◌, sym, ap, subst, arith}
 use Rattle.kernel_tables.specs.Kernel.{Kernel, kernel_of, first_page}
-use Rattle.space_bank.specs.Bank.{BankGood, IsFirstFree, TakesPage}
+use Rattle.space_bank.specs.Bank.{BankGood}
 use Rattle.space_bank.proofs.BankLaws.{bank_good-page_taken}
 use Rattle.space_bank.proofs.pages.take_page.Goals as goal
 
