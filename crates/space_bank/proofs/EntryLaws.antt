@@ -20,7 +20,7 @@ use Rattle.space_bank.specs.Bank.{EntriesGood, PagesGood, NodesGood, IsFirstFree
 use Rattle.space_bank.proofs.FreeListLaws.{entry_inside, free_list-taken, free_list-given, taken_count-set, taken_count-few, sum_by-few}
 
 -- what holds of an entry that is written and of each other one
-set_cases : {O : Type 0} (P : Entry O → Type 0) (entries : List (Entry O)) (n m : ℕ) (entry : Entry O) → n < length entries → (n ≡ m → P entry) → (n ≢ m → P (entry_at entries m)) → P (entry_at (set entries n entry) m)
+pub set_cases : {O : Type 0} (P : Entry O → Type 0) (entries : List (Entry O)) (n m : ℕ) (entry : Entry O) → n < length entries → (n ≡ m → P entry) → (n ≢ m → P (entry_at entries m)) → P (entry_at (set entries n entry) m)
 set_cases P entries n m entry inside here there =
     ⊎_elim
     (λ (same : n ≡ m).
@@ -36,7 +36,7 @@ free_one (Taken owner count) h = let no : false ≡ true = h in cc
 free_one Fixed h = refl
 free_one Unspelled h = refl
 
-free_spelled : {O : Type 0} (entry : Entry O) → is_free entry ≡ true → entry ≢ Unspelled
+pub free_spelled : {O : Type 0} (entry : Entry O) → is_free entry ≡ true → entry ≢ Unspelled
 free_spelled entry h e = let no : true ≡ false = sym h ∙ ap is_free e in cc
 
 taken_used : {O : Type 0} (entry : Entry O) → taken_one entry ≡ 1 → is_free entry ≡ false

@@ -1,3 +1,4 @@
 pub mod FreeListLaws
 pub mod EntryLaws
 pub mod BankLaws
+pub mod ShareLaws

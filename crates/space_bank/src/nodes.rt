@@ -1,10 +1,11 @@
 //! Nodes are taken and given back.
 
-ghost use Rattle.std.specs.Prelude.{◌≡◌, ℕ, ◌<◌, ◌≤◌, ◌+◌, ◌*◌, ◌^◌, MatchOption, Some, length, replicate};
+ghost use Rattle.std.specs.Prelude.{◌≡◌, ℕ, ◌<◌, ◌≤◌, ◌+◌, ◌*◌, ◌^◌, MatchOption, IfSome, Some, length, replicate};
 ghost use Rattle.kn_base.specs.declared.key.Key.TheVariants.{Null};
 ghost use Rattle.kn_base.specs.Rows.{overwritten};
 ghost use Rattle.kn_base.specs.Memory.{Memory};
 ghost use Rattle.kernel_tables.specs.Kernel.{Kernel, kernel_of, Sized, IsSized};
+ghost use Rattle.space_bank.specs.Shares.{SharesTaken, NodeShares, node_places};
 ghost use Rattle.space_bank.specs.FreeList.{entry_at, is_free};
 ghost use Rattle.space_bank.specs.Bank.{BankGood, NoneFree, IsFirstFree, TakesNode, IsTakenOnce, node_taken, node_given};
 
@@ -47,6 +48,7 @@ fn use_node<T: Store>(store: &mut T, node: NodeId, owner: NodeOwner)
 pub fn take_node<T: Store>(store: &mut T, owner: NodeOwner) -> Option<NodeId>
     requires { BankGood (kernel_of (T.memory store.old)) }
     ensures taken { let old = kernel_of (T.memory store.old) in let new = kernel_of (T.memory store.new) in MatchOption result (NoneFree old.node_entries old.nodes × (new ≡ old)) (λ node. TakesNode old new node.0 owner) }
+    ensures shares { let old = kernel_of (T.memory store.old) in let new = kernel_of (T.memory store.new) in IfSome result (λ node. SharesTaken (NodeShares old) (NodeShares new) (node_places old.keys) node.0) }
     ensures good { BankGood (kernel_of (T.memory store.new)) }
     ensures keeps { T.keeps store.old store.new }
 {

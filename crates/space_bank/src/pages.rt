@@ -1,9 +1,10 @@
 //! Pages are taken and given back.
 
-ghost use Rattle.std.specs.Prelude.{◌≡◌, ℕ, ◌<◌, ◌≤◌, ◌+◌, ◌-◌, ◌^◌, MatchOption};
+ghost use Rattle.std.specs.Prelude.{◌≡◌, ℕ, ◌<◌, ◌≤◌, ◌+◌, ◌-◌, ◌^◌, MatchOption, IfSome};
 ghost use Rattle.kn_base.specs.Memory.{Memory};
 ghost use Rattle.kernel_tables.specs.Kernel.{Kernel, kernel_of, Sized, IsSized, first_page};
 ghost use Rattle.space_bank.specs.Bank.{BankGood, NoneFree, IsFirstFree, TakesPage, IsTakenOnce, memory_taken_one, page_taken, page_given};
+ghost use Rattle.space_bank.specs.Shares.{SharesTaken, PageShares, page_places};
 ghost use Rattle.space_bank.specs.FreeList.{entry_at, is_free};
 
 use super::entries::{memory_pages, memory_pages_of, next_page};
@@ -49,6 +50,7 @@ fn use_page<T: Store>(store: &mut T, n: u32, owner: PageOwner)
 pub fn take_page<T: Store>(store: &mut T, owner: PageOwner) -> Option<PageId>
     requires { BankGood (kernel_of (T.memory store.old)) }
     ensures taken { let old = kernel_of (T.memory store.old) in let new = kernel_of (T.memory store.new) in MatchOption result (NoneFree old.page_entries old.size × (new ≡ old)) (λ page. TakesPage old new page.0 owner) }
+    ensures shares { let old = kernel_of (T.memory store.old) in let new = kernel_of (T.memory store.new) in IfSome result (λ page. SharesTaken (PageShares old) (PageShares new) (page_places old.keys) page.0) }
     ensures good { BankGood (kernel_of (T.memory store.new)) }
     ensures keeps { T.keeps store.old store.new }
 {
