@@ -1,0 +1,5 @@
+pub mod FreeListLaws
+pub mod EntryLaws
+pub mod BankLaws
+pub mod ShareLaws
+pub mod SetupLaws

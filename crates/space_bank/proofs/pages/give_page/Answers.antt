@@ -1,0 +1,35 @@
+use Rattle.std.proofs.Common.{◌≡◌, ℕ, ◌-◌, ◌<◌, ◌≤◌, ◌∙◌, sym, ap, subst, arith}
+use Rattle.kernel_tables.specs.Kernel.{kernel_of, first_page}
+use Rattle.space_bank.specs.FreeList.{entry_at}
+use Rattle.space_bank.specs.Bank.{BankGood, IsTakenOnce, memory_taken_one}
+use Rattle.space_bank.proofs.BankLaws.{bank_good-page_given, page-counted}
+use Rattle.space_bank.proofs.pages.give_page.Goals as goal
+
+pub free_up-requires-clause-some_page : goal.free_up-requires-clause-some_page
+free_up-requires-clause-some_page g c =
+    let kernel = kernel_of (g.T.Store.memory c.args.store.now) in
+    let inside : c.args.page.0 - first_page kernel.size < kernel.size = omega (arith, c.requires.low, c.requires.high) in
+    (page-counted kernel (c.args.page.0 - first_page kernel.size) inside c.requires.taken c.requires.good).0
+
+pub free_up-requires-clause-some_memory : goal.free_up-requires-clause-some_memory
+free_up-requires-clause-some_memory g c =
+    let kernel = kernel_of (g.T.Store.memory c.args.store.now) in
+    let inside : c.args.page.0 - first_page kernel.size < kernel.size = omega (arith, c.requires.low, c.requires.high) in
+    let first : first_page kernel.size ≡ c.first_bank_page.result =
+    sym (c.first_bank_page.ensures ∙ ap first_page c.bank_size.ensures)
+    in
+    subst (λ (x : ℕ). memory_taken_one (entry_at kernel.page_entries (c.args.page.0 - x)) ≤ kernel.machine.memory_taken) first
+    (page-counted kernel (c.args.page.0 - first_page kernel.size) inside c.requires.taken c.requires.good).1
+
+pub returns-clause-good : goal.returns-clause-good
+returns-clause-good g c =
+    let kernel = kernel_of (g.T.Store.memory c.args.store.now) in
+    let first : first_page kernel.size ≡ c.first_bank_page.result =
+    sym (c.first_bank_page.ensures ∙ ap first_page c.bank_size.ensures)
+    in
+    let inside : c.args.page.0 - c.first_bank_page.result < kernel.size = omega (arith, c.requires.low, c.requires.high) in
+    let taken : IsTakenOnce (entry_at kernel.page_entries (c.args.page.0 - c.first_bank_page.result)) =
+    subst (λ (x : ℕ). IsTakenOnce (entry_at kernel.page_entries (c.args.page.0 - x))) first c.requires.taken
+    in
+    subst BankGood (sym c.free_up.ensures.written)
+    (bank_good-page_given kernel (c.args.page.0 - c.first_bank_page.result) inside taken c.requires.good)

@@ -1,0 +1,4 @@
+-- in reading order
+pub mod FreeList
+pub mod Bank
+pub mod Shares

@@ -1,0 +1,12 @@
+//! The space bank: which pages and nodes of the store are free, and how many pages are promised.
+#![tactic(auto)]
+
+mod entries;
+mod nodes;
+mod pages;
+mod promises;
+
+pub use kernel_tables::{NodeOwner, PageOwner};
+pub use nodes::{give_node, take_node};
+pub use pages::{give_page, take_page};
+pub use promises::{Taken, machine_word, promise, promised, set_machine_word, taken_of, unpromise};
