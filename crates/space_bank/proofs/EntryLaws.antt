@@ -51,10 +51,6 @@ free_memory (Taken owner count) h = let no : false ≡ true = h in cc
 free_memory Fixed h = refl
 free_memory Unspelled h = refl
 
-and_right : (a b : Bool) → (a && b) ≡ true → b ≡ true
-and_right true b h = h
-and_right false b h = let no : false ≡ true = h in cc
-
 -- the first free object is taken
 pub entries_good-taken : {O : Type 0} (entries : List (Entry O)) (base count first taken n : ℕ) (owner : O) → IsFirstFree entries base count first n → EntriesGood entries base count first taken → EntriesGood (set entries n (Taken owner 1)) base count (next_of (entry_at entries n)) (taken + 1)
 entries_good-taken entries base count first taken n owner head good =
