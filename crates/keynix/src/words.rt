@@ -1,6 +1,7 @@
 //! The words of the command line.
 
 ghost use Rattle.std.specs.Prelude.{◌≡◌, Some, codes, map, option_map, string_bytes};
+ghost use Rattle.unix_model.specs.Texts as texts;
 ghost use Rattle.unix_model.specs.Words as model;
 ghost use Rattle.keynix.specs.WordsView.{IsCut, command_view, options_view};
 
@@ -37,7 +38,7 @@ fn is_disk(word: &str) -> bool
 
 /// The number that digits spell, cut where it is too large; None where a byte is no digit.
 fn digits(text: &[u8]) -> Option<u64>
-    ensures { IsCut (model.digits_after 0 text.now) result }
+    ensures { IsCut (texts.digits_after 0 text.now) result }
 {
     let mut number = 0;
     for byte in text {
@@ -52,7 +53,7 @@ fn digits(text: &[u8]) -> Option<u64>
 /// The number of turns that a text spells: plain decimal, and not above the limit.
 #[tactic(auto, unfolding(unix_model::specs::Words::most_turns))]
 fn turns_of(text: &[u8]) -> Option<u64>
-    ensures { result ≡ model.number_of model.most_turns text.now }
+    ensures { result ≡ texts.number_of model.most_turns text.now }
 {
     match text {
         [] => None,

@@ -7,3 +7,4 @@ pub mod RoomLaws
 pub mod BootLaws
 pub mod StoredLaws
 pub mod RunLaws
+pub mod TextLaws

@@ -16,5 +16,6 @@ pub mod Schedule
 pub mod Elf
 pub mod Loading
 pub mod Boot
+pub mod Texts
 pub mod Words
 pub mod Notes

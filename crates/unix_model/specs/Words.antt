@@ -1,5 +1,6 @@
 -- The words of the command line: a disk, a command, and its options. Every other list of words is no command.
-use Rattle.std.specs.Prelude.{ℕ, ◌+◌, ◌-◌, ◌*◌, Bool, true, false, not, ◌&&◌, ◌||◌, List, [], ◌∷◌, Option, Some, None, codes, bytes_eq, ◌==◌, nat_le, unwrap_or, if◌then◌else◌}
+use Rattle.std.specs.Prelude.{ℕ, Bool, false, not, List, [], ◌∷◌, Option, Some, None, codes, bytes_eq, ◌==◌, unwrap_or, if◌then◌else◌}
+use Rattle.unix_model.specs.Texts.{number_of}
 
 -- a command with its options
 pub data Command : Type 0 where
@@ -19,27 +20,6 @@ default_pages = 2048
 
 unfoldable pub default_quantum : ℕ
 default_quantum = 100
-
--- a byte from `0` to `9`
-abbrev pub is_digit : ℕ → Bool
-is_digit byte = nat_le 48 byte && nat_le byte 57
-
--- the number that these digits spell after the digits of another; None where a byte is no digit
-abbrev pub digits_after : ℕ → List ℕ → Option ℕ
-digits_after number [] = Some number
-digits_after number (byte ∷ bytes) = if is_digit byte then digits_after (10 * number + (byte - 48)) bytes else None
-
--- the number, where it is at most the limit
-abbrev pub at_most : ℕ → Option ℕ → Option ℕ
-at_most limit None = None
-at_most limit (Some number) = if nat_le number limit then Some number else None
-
--- the number that a text spells, plain decimal: `0`, or a digit from 1 to 9 and digits after it; None where it spells
--- none or one above the limit
-abbrev pub number_of : ℕ → List ℕ → Option ℕ
-number_of limit [] = None
-number_of limit (byte ∷ []) = at_most limit (digits_after 0 (byte ∷ []))
-number_of limit (byte ∷ next ∷ bytes) = if byte == 48 then None else at_most limit (digits_after 0 (byte ∷ next ∷ bytes))
 
 -- what follows a prefix
 abbrev pub after_prefix : List ℕ → List ℕ → Option (List ℕ)

@@ -1,5 +1,5 @@
 use Rattle.std.proofs.Common.{◌≡◌, ℕ, drop, min}
-use Rattle.unix_model.specs.Words.{digits_after}
+use Rattle.unix_model.specs.Texts.{digits_after}
 use Rattle.keynix.proofs.words.digits.Given as goal
 
 abbrev pub invariant-loop-byte : goal.invariant-loop-byte
