@@ -6,8 +6,10 @@
 
 mod lines;
 mod numbers;
+mod slices;
 #[cfg(test)]
 mod tests;
 
 pub use lines::{LineFault, LineReader};
 pub use numbers::{NumberFault, number_of};
+pub use slices::split_line;

@@ -1,5 +1,8 @@
 //! Lines at the edges of what they may be, and numbers at the edges of theirs.
 
+ghost use Rattle.std.specs.Prelude.{◌≡◌, ℕ, List, Some, length, IfOk};
+ghost use Rattle.unix_model.specs.Texts.{lines_of};
+
 use super::*;
 use arrayvec::ArrayVec;
 use kn_io::{ByteSource, MemSource, Source};
@@ -82,6 +85,55 @@ fn lines_are_the_parts_between_line_feeds(rt: HostRuntime) -> Result<(), Fail> {
         "other bytes"
     );
     Ok(())
+}
+
+// How many lines a source has. A test has a few only.
+fn count_lines<S: Source>(from: &mut S) -> Result<u32, LineFault>
+    ensures { IfOk result (λ count. (bytes : List ℕ) → S.left from.old ≡ Some bytes → length (lines_of bytes) ≡ count) }
+{
+    let mut reader = LineReader::new();
+    let mut line = ArrayVec::new();
+    'lines: while reader.line() < 100 {
+        match reader.next_line(from, &mut line) {
+            Ok(true) => {}
+            Ok(false) => return Ok(reader.line()),
+            Err(fault) => return Err(fault),
+        }
+    }
+    Err(LineFault::TooLong)
+}
+
+#[test]
+fn all_lines_of_a_source_are_read(rt: HostRuntime) -> Result<(), Fail> {
+    let rows: [(&[u8], u32); 5] = [
+        (b"", 0),
+        (b"\n", 1),
+        (b"a", 1),
+        (b"a\n\nb", 3),
+        (b"\n\n\n", 3),
+    ];
+    for (bytes, count) in rows {
+        let mut source = ByteSource::new(Vec::from_slice(rt.alloc(), bytes)?);
+        assert_eq!(rt; count_lines(&mut source), Ok(count));
+        assert!(rt; source.rest().is_empty());
+    }
+    Ok(())
+}
+
+#[test]
+fn a_text_in_memory_is_cut_at_its_first_line_feed(rt: HostRuntime) {
+    let rows: [(&[u8], &[u8], &[u8]); 7] = [
+        (b"", b"", b""),
+        (b"\n", b"", b""),
+        (b"\na", b"", b"a"),
+        (b"ab", b"ab", b""),
+        (b"ab\n", b"ab", b""),
+        (b"ab\ncd\n", b"ab", b"cd\n"),
+        (b"ab\n\n", b"ab", b"\n"),
+    ];
+    for (text, line, rest) in rows {
+        assert_eq!(rt; split_line(text), (line, rest));
+    }
 }
 
 #[test]
