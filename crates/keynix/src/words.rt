@@ -3,7 +3,9 @@
 ghost use Rattle.std.specs.Prelude.{◌≡◌, Some, codes, map, option_map, string_bytes};
 ghost use Rattle.unix_model.specs.Texts as texts;
 ghost use Rattle.unix_model.specs.Words as model;
-ghost use Rattle.keynix.specs.WordsView.{IsCut, command_view, options_view};
+ghost use Rattle.keynix.specs.WordsView.{command_view, options_view};
+
+use kn_text::number_of;
 
 /// A command with its options.
 #[derive(Clone, Copy, Debug, PartialEq, Eq)]
@@ -23,9 +25,6 @@ const DEFAULT_TURNS: u64 = 100_000_000;
 
 const MOST_TURNS: u64 = 1_000_000_000_000;
 
-/// Where a number that is too large is cut while it is read.
-const TOO_LARGE: u64 = 10_000_000_000_000;
-
 /// Whether a word can name a disk: it isn't empty and doesn't begin with `-`.
 fn is_disk(word: &str) -> bool
     ensures { result ≡ model.is_disk word.now }
@@ -36,39 +35,12 @@ fn is_disk(word: &str) -> bool
     }
 }
 
-/// The number that digits spell, cut where it is too large; None where a byte is no digit.
-fn digits(text: &[u8]) -> Option<u64>
-    ensures { IsCut (texts.digits_after 0 text.now) result }
-{
-    let mut number = 0;
-    for byte in text {
-        if !byte.is_ascii_digit() {
-            return None;
-        }
-        number = (10 * number + u64::from(byte - b'0')).min(TOO_LARGE);
-    }
-    Some(number)
-}
-
 /// The number of turns that a text spells: plain decimal, and not above the limit.
 #[tactic(auto, unfolding(unix_model::specs::Words::most_turns))]
 fn turns_of(text: &[u8]) -> Option<u64>
     ensures { result ≡ texts.number_of model.most_turns text.now }
 {
-    match text {
-        [] => None,
-        [b'0', _, ..] => None,
-        _ => match digits(text) {
-            Some(turns) => {
-                if turns <= MOST_TURNS {
-                    Some(turns)
-                } else {
-                    None
-                }
-            }
-            None => None,
-        },
-    }
+    number_of(text, MOST_TURNS).ok()
 }
 
 /// What follows `--turns=` in a word.

@@ -1,6 +1,6 @@
 -- From the bytes that were taken one after another to the line that they were.
-use Rattle.std.proofs.Common.{◌≡◌, ◌≢◌, ℕ, ◌<◌, ◌≤◌, ◌+◌, List, [], ◌∷◌, ◌++◌, length, Some, refl, sym, ap, ◌∙◌, subst, append_assoc, append-nil, length-append, arith}
-use Rattle.std.specs.Prelude.{Option, Err}
+use Rattle.std.proofs.Common.{◌≡◌, ◌≢◌, ℕ, ◌<◌, ◌≤◌, ◌+◌, List, [], ◌∷◌, ◌++◌, length, Some, sym, ap, ◌∙◌, subst, append_assoc, append-nil, length-append, arith}
+use Rattle.std.specs.Prelude.{Option}
 use Rattle.std.proofs.Math.Seq.{take-append_seam, drop-append_seam}
 use Rattle.std.proofs.lemmas.Bool.Decides.{nat_tests}
 use Rattle.std.proofs.lemmas.List.Folds.{list_any-append}
@@ -8,8 +8,7 @@ use Rattle.kn_io.specs.Source.{Takes, IsAtEnd}
 use Rattle.kn_io.proofs.Taking.{takes-told}
 use Rattle.unix_model.specs.Texts.{IsLine, line_front, lines_of}
 use Rattle.unix_model.proofs.TextLaws.{line_front-append, line_front-ended, line_rest-ended, line_front-last, line_rest-last, lines_of-nothing, lines_of-ended, lines_of-last}
-use Rattle.kn_text.specs.declared.lines.LineFault.TheVariants.{ReadFault}
-use Rattle.kn_text.specs.Lines.{IsFirstLine, IsTooLong, IsNoLine, IsPartLine, ahead, begun_by}
+use Rattle.kn_text.specs.Lines.{IsFirstLine, IsTooLong, IsNoLine, ahead}
 
 -- a byte of a line at its end
 pub IsLine-append : (line : List ℕ) (byte : ℕ) → IsLine line → byte ≢ 10 → IsLine (line ++ byte ∷ [])
@@ -19,11 +18,6 @@ IsLine-append line byte fits other = grind (arith, list_any-append, nat_tests)
 pub ends-there : (line rest : List ℕ) (byte : ℕ) → line ++ byte ∷ rest ≢ []
 ends-there [] rest byte = λ e. cc
 ends-there (first ∷ line) rest byte = λ e. cc
-
--- a call that read a part of a line began it
-pub part-begins : (line : List ℕ) (byte : ℕ) → begun_by (Err ReadFault) (line ++ byte ∷ []) ≡ 1
-part-begins [] byte = refl
-part-begins (first ∷ line) byte = refl
 
 -- a line feed ended the line
 pub line-ended : (whole left : Option (List ℕ)) (line : List ℕ) (byte : ℕ) → Takes whole (line ++ byte ∷ []) left → byte ≡ 10 → IsLine line → length line ≤ 1024 → (bytes : List ℕ) → whole ≡ Some bytes → IsFirstLine bytes line left
@@ -75,12 +69,6 @@ line-too_long whole left line byte taken other fits full bytes told =
   where
     longer : (line rest : List ℕ) (byte : ℕ) → length line ≡ 1024 → 1024 < length (line ++ byte ∷ rest)
     longer line rest byte full = omega (arith, length-append line (byte ∷ rest))
-
--- a call failed after a part of it
-pub line-part : (whole left : Option (List ℕ)) (line : List ℕ) → Takes whole line left → (bytes : List ℕ) → whole ≡ Some bytes → IsPartLine bytes line left
-line-part whole left line taken bytes told =
-    let r = takes-told whole left line bytes taken told in
-    record { rest = r.0; joined = r.1; left_is = r.2 }
 
 -- what holds of the bytes from the one that was taken on holds of all that were ahead
 pub after-first : (first : List ℕ) (old left : Option (List ℕ)) (byte : ℕ) (P : List ℕ → Type 0) → Takes (ahead first old) (byte ∷ []) left → ((bytes : List ℕ) → left ≡ Some bytes → P (byte ∷ bytes)) → (bytes : List ℕ) → old ≡ Some bytes → P (first ++ bytes)

@@ -1,4 +1,4 @@
-use Rattle.std.proofs.Common.{◌≡◌, ℕ, ◌+◌, ◌∷◌, List, length, ap, arith}
+use Rattle.std.proofs.Common.{◌≡◌, ◌+◌, ◌∷◌, length, ap, arith}
 use Rattle.unix_model.specs.Texts.{line_rest, lines_of}
 use Rattle.kn_text.specs.Lines.{IsFirstLine, IsNoLine, lines_begun}
 use Rattle.kn_text.proofs.tests.count_lines.Goals as goal

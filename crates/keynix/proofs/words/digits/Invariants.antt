@@ -1,6 +1,0 @@
-use Rattle.std.proofs.Common.{◌≡◌, ℕ, drop, min}
-use Rattle.unix_model.specs.Texts.{digits_after}
-use Rattle.keynix.proofs.words.digits.Given as goal
-
-abbrev pub invariant-loop-byte : goal.invariant-loop-byte
-invariant-loop-byte l = (whole : ℕ) × (l.number ≡ min whole 10000000000000) × (digits_after 0 l.text ≡ digits_after whole (drop l.byte-index l.text))
