@@ -1,6 +1,6 @@
 -- What a page that is written leaves of the tables.
-use Rattle.std.proofs.Common.{◌≡◌, ◌≢◌, ℕ, ◌+◌, ◌*◌, ◌/◌, ◌<◌, ◌≤◌, ◌==◌, if◌then◌else◌, Option, List, [], length, drop, set, get_or, refl, ap, sym, ◌∙◌, ⊎_elim, arith}
-use Rattle.std.proofs.lemmas.List.{drop-set-lt, drop-set-add, get_or-set_same, get_or-set_other, length-set}
+use Rattle.std.proofs.Common.{◌≡◌, ◌≢◌, ℕ, ◌+◌, ◌-◌, ◌*◌, ◌/◌, ◌<◌, ◌≤◌, ◌==◌, if◌then◌else◌, Option, List, [], length, drop, set, get_or, refl, ap, sym, ◌∙◌, ⊎_elim, arith}
+use Rattle.std.proofs.lemmas.List.{get_or-drop, drop-set-lt, drop-set-add, get_or-set_same, get_or-set_other, length-set}
 use Rattle.std.proofs.lemmas.Bool.{cases_eq, eq-eqb, ne_eqb}
 use Rattle.std.specs.Int.{from_le_bytes, w32}
 use Rattle.kn_base.specs.declared.key.Key.{Key}
@@ -75,5 +75,33 @@ tables_of-word size memory n word at part inside whole low place four spelled =
     let bank = drop-set-lt (18 + entry_pages size + entry_pages (node_count size)) memory.pages 1 new (omega arith) in
     same_tables size sizes (length memory.keys / 16) page_zero machine others inodes descriptions page_entries node_entries bank memory.keys
 
+-- a page of the bank by its number
+pub get_or-bank : (first : ℕ) (pages : List (List ℕ)) (page : ℕ) → first ≤ page → get_or pages page [] ≡ get_or (drop first pages) (page - first) []
+get_or-bank first pages page low =
+    let place : first + (page - first) ≡ page = omega arith in
+    ap (λ k. get_or pages k []) (sym place) ∙ sym (get_or-drop first pages (page - first) [])
+
+drop-set_bank : (first : ℕ) (pages : List (List ℕ)) (page : ℕ) (bytes : List ℕ) → first ≤ page → drop first (set pages page bytes) ≡ set (drop first pages) (page - first) bytes
+drop-set_bank first pages page bytes low =
+    let place : first + (page - first) ≡ page = omega arith in
+    ap (λ k. drop first (set pages k bytes)) (sym place) ∙ drop-set-add first pages (page - first) bytes
+
+-- one whose bytes come of what it or another one held
+pub drop-overwritten : (first : ℕ) (pages : List (List ℕ)) (page at : ℕ) (part : List ℕ) → first ≤ page → drop first (set pages page (overwritten (get_or pages page []) at part)) ≡ set (drop first pages) (page - first) (overwritten (get_or (drop first pages) (page - first) []) at part)
+drop-overwritten first pages page at part low =
+    drop-set_bank first pages page (overwritten (get_or pages page []) at part) low
+    ∙ ap (λ bytes. set (drop first pages) (page - first) (overwritten bytes at part)) (get_or-bank first pages page low)
+
+pub drop-copied : (first : ℕ) (pages : List (List ℕ)) (from to : ℕ) → first ≤ from → first ≤ to → drop first (set pages to (get_or pages from [])) ≡ set (drop first pages) (to - first) (get_or (drop first pages) (from - first) [])
+drop-copied first pages from to from_low to_low =
+    drop-set_bank first pages to (get_or pages from []) to_low
+    ∙ ap (set (drop first pages) (to - first)) (get_or-bank first pages from from_low)
+
 -- for a function that writes a row or a page
 pub ruleset written = (tables_written, drop-set-lt, drop-set-add)
+
+-- for a function that writes bytes of a page of the bank
+pub ruleset bank_written = (tables_written, drop-set-lt, drop-overwritten, drop-copied)
+
+-- for a function that reads bytes of one
+pub ruleset bank_read = (get_or-bank)

@@ -1,14 +1,13 @@
 -- What the bytes of inode entries and descriptions spell.
-use Rattle.std.proofs.Common.{◌≡◌, ℕ, ◌<◌, ◌^◌, ◌++◌, ◌∷◌, ◌==◌, ◌||◌, ◌&&◌, nat_lt, Bool, List, Option, Some, ap, sym, ◌∙◌, arith}
+use Rattle.std.proofs.Common.{◌≡◌, ℕ, ◌<◌, ◌^◌, ◌++◌, ◌∷◌, ◌==◌, Bool, List, Option, Some, ap, ◌∙◌}
 use Rattle.std.proofs.lemmas.Nat.{from_le_bytes-to_le_bytes_4}
 use Rattle.std.proofs.lemmas.Bool.{lt-ltb}
-use Rattle.std.specs.Int.{from_le_bytes, to_le_bytes, w32}
-use Rattle.kernel_tables.specs.declared.row.Row.{Row}
-use Rattle.kernel_tables.specs.declared.row.Row.TheVariants.{Free, Used, Unspelled}
+use Rattle.std.specs.Int.{to_le_bytes, w32}
+use Rattle.kernel_tables.specs.declared.row.Row.TheVariants.{Used}
 use Rattle.kernel_tables.specs.declared.inode.InodeKind.{InodeKind}
 use Rattle.kernel_tables.specs.declared.inode.Inode.{Inode}
 use Rattle.kernel_tables.specs.declared.description.Description.{Description}
-use Rattle.kernel_tables.specs.Files.{row_word, IsMode, inode_kind, inode_of_kind, inode_entry_of, description_entry_of}
+use Rattle.kernel_tables.specs.Files.{IsMode, inode_kind, inode_of_kind, inode_entry_of, description_entry_of}
 
 abbrev pub four : ℕ → ℕ → ℕ → ℕ → List ℕ
 four a b c d = (to_le_bytes w32 a ++ to_le_bytes w32 b) ++ (to_le_bytes w32 c ++ to_le_bytes w32 d)

@@ -2,7 +2,7 @@
 -- opens, root, parent and start, and 0. A description has four bytes, which are 1 for used, the mode (1 for reading, 2 for
 -- writing, 3 for both), 1 for append and 0, and then the words inode, offset and number of descriptors. A row of zeros is
 -- free; any other bytes spell nothing.
-use Rattle.std.specs.Prelude.{◌≡◌, ℕ, ◌<◌, Bool, ◌==◌, ◌&&◌, ◌||◌, nat_lt, Option, Some, None, List, take, drop, replicate, if◌then◌else◌, slice_index}
+use Rattle.std.specs.Prelude.{◌≡◌, ℕ, ◌<◌, Bool, ◌==◌, ◌&&◌, ◌||◌, nat_lt, Option, Some, None, List, replicate, if◌then◌else◌, slice_index}
 use Rattle.std.specs.Int.{from_le_bytes, w32}
 use Rattle.std.specs.Str.{bytes_eq}
 use Rattle.kn_base.specs.Rows.{part_at}

@@ -1,5 +1,5 @@
 -- What a store of a machine holds.
-use Rattle.std.specs.Prelude.{◌≡◌, ℕ, ◌+◌, ◌-◌, ◌*◌, ◌/◌, ◌%◌, ◌≤◌, ◌==◌, if◌then◌else◌, Option, List, [], length, drop, slice_index, slice_index_or}
+use Rattle.std.specs.Prelude.{◌≡◌, ℕ, ◌+◌, ◌-◌, ◌*◌, ◌/◌, ◌%◌, ◌<◌, ◌≤◌, ◌==◌, if◌then◌else◌, Option, List, [], length, drop, slice_index, slice_index_or, slice_set}
 use Rattle.std.specs.Int.{from_le_bytes, w32}
 use Rattle.kn_base.specs.declared.key.Key.{Key}
 use Rattle.kn_base.specs.Rows.{table_at}
@@ -128,6 +128,19 @@ inode_at kernel number = slice_index_or kernel.inodes number Unspelled
 abbrev pub description_at : Kernel → ℕ → Row Description
 description_at kernel number = slice_index_or kernel.descriptions number Unspelled
 
--- the bytes of a page of the bank
+-- The page of this number is one of a bank of so many pages.
+pub record IsBankPage (size page : ℕ) : Type 0 where
+  pub low : first_page size ≤ page
+  pub high : page < first_page size + size
+
+-- the bytes of a page of the bank by its number
 abbrev pub bank_page : Kernel → ℕ → List ℕ
-bank_page kernel n = slice_index_or kernel.bank n []
+bank_page kernel page = slice_index_or kernel.bank (page - first_page kernel.size) []
+
+-- the bank in which the page of this number has other bytes
+abbrev pub with_bank_page : Kernel → ℕ → List ℕ → List (List ℕ)
+with_bank_page kernel page bytes = slice_set kernel.bank (page - first_page kernel.size) bytes
+
+-- the bytes of a page that a key of memory may name: page 0, or a page of the bank
+abbrev pub memory_page : Kernel → ℕ → List ℕ
+memory_page kernel page = if page == 0 then kernel.page_zero else bank_page kernel page

@@ -11,8 +11,8 @@ mod machine;
 mod row;
 
 pub use bank::{
-    bank_size, clear_bank_page, first_bank_page, key_at, node_entry, page_entry, set_key_at,
-    set_node_entry, set_page_entry,
+    bank_size, clear_bank_page, copy_bank_page, first_bank_page, key_at, node_entry, page_entry,
+    read_bank_page, read_memory_page, set_key_at, set_node_entry, set_page_entry, write_bank_page,
 };
 pub use description::{Description, description_bytes, description_entry_in};
 pub use entry::{Entry, NodeOwner, PageOwner};

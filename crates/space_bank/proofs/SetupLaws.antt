@@ -1,11 +1,11 @@
 -- Objects that are free in their order form a free list.
-use Rattle.std.proofs.Common.{◌≡◌, ◌≢◌, ℕ, zero, suc, ◌+◌, ◌-◌, ◌<◌, ◌≤◌, ◌==◌, ◌&&◌, ◌||◌, if◌then◌else◌, Bool, true, false, nat_lt, List, [], ◌∷◌, length, set, refl, ap, sym, subst, ◌∙◌, ⊎_elim, arith}
+use Rattle.std.proofs.Common.{◌≡◌, ◌≢◌, ℕ, zero, suc, ◌+◌, ◌-◌, ◌<◌, ◌≤◌, ◌&&◌, ◌||◌, if◌then◌else◌, true, false, nat_lt, List, length, set, refl, ap, sym, ◌∙◌, ⊎_elim, arith}
 use Rattle.std.proofs.Math.Bool.{and-false}
 use Rattle.std.proofs.lemmas.Bool.{cases_eq, cases_lt, eq-eqb, ne_eqb, lt-ltb, le-ltb}
 use Rattle.std.specs.List.{range_with_len}
 use Rattle.kernel_tables.specs.declared.entry.Entry.{Entry}
-use Rattle.kernel_tables.specs.declared.entry.Entry.TheVariants.{Free, Taken, Fixed, Unspelled}
-use Rattle.space_bank.specs.FreeList.{entry_at, is_free, is_free_at, elem, first_of, Threads, IsFreeList, following, Linked}
+use Rattle.kernel_tables.specs.declared.entry.Entry.TheVariants.{Free}
+use Rattle.space_bank.specs.FreeList.{entry_at, is_free, elem, first_of, Threads, IsFreeList, following, Linked}
 use Rattle.space_bank.proofs.EntryLaws.{set_cases}
 
 elem-range_in : (a n m : ℕ) → a ≤ m → m < a + n → elem m (range_with_len a n) ≡ true

@@ -2,3 +2,4 @@
 pub mod FreeList
 pub mod Bank
 pub mod Shares
+pub mod Fixed

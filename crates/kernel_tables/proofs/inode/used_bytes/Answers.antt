@@ -1,4 +1,4 @@
-use Rattle.std.proofs.Common.{ap, ◌∙◌, ◌++◌, ◌<◌, List, ℕ, arith}
+use Rattle.std.proofs.Common.{ap, ◌∙◌, ◌++◌, List, ℕ, arith}
 use Rattle.kernel_tables.specs.Files.{inode_entry_of}
 use Rattle.kernel_tables.proofs.Rows.{inode-spelled, four}
 use Rattle.kernel_tables.proofs.inode.used_bytes.Goals as goal
