@@ -1,5 +1,5 @@
 -- in reading order
 pub mod FreeList
 pub mod Bank
-pub mod Shares
 pub mod Fixed
+pub mod Shares
