@@ -1,4 +1,5 @@
 -- in reading order
 pub mod FreeList
 pub mod Bank
+pub mod Setup
 pub mod Shares

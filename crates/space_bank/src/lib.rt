@@ -5,6 +5,7 @@ mod entries;
 mod nodes;
 mod pages;
 mod promises;
+mod setup;
 
 pub use kernel_tables::{NodeOwner, PageOwner};
 pub use nodes::{give_node, take_node};

@@ -1,0 +1,88 @@
+//! An empty bank on a store of zeros.
+
+ghost use Rattle.std.specs.Prelude.{◌≡◌, ℕ, ◌<◌, ◌≤◌, ◌+◌, ◌-◌, ◌*◌, ◌^◌, Some, length, replicate};
+ghost use Rattle.kn_base.specs.Rows.{overwritten};
+ghost use Rattle.kn_base.specs.Memory.{Memory};
+ghost use Rattle.kernel_tables.specs.declared.entry.Entry.TheVariants.{Fixed};
+ghost use Rattle.kernel_tables.specs.Kernel.{Kernel, kernel_of, Sized, IsSized, first_page};
+ghost use Rattle.space_bank.specs.FreeList.{following};
+ghost use Rattle.space_bank.specs.Setup.{free_entries, with_service_root, with_service_roots};
+
+use kernel_tables::{Entry, first_bank_page, set_key_at, set_node_entry, set_page_entry};
+use kn_base::{Key, NodeId, Store};
+
+// The object behind that of entry n, or 0 behind the last of `count`.
+fn following(base: u32, count: u32, n: u32) -> u32
+    requires inside { n < count }
+    requires small { base + count < 2 ^ 32 }
+    ensures { result ≡ following base count n }
+{
+    if n + 1 == count { 0 } else { base + (n + 1) }
+}
+
+// Makes all pages of the bank free, each naming the next one.
+#[tactic(auto, using(crate::proofs::SetupLaws::linking))]
+fn link_pages<T: Store>(store: &mut T, pages: u32)
+    requires sized { Sized (kernel_of (T.memory store.old)) }
+    requires all { pages ≡ (kernel_of (T.memory store.old)).size }
+    requires rows { pages ≤ length (kernel_of (T.memory store.old)).page_entries }
+    ensures linked { kernel_of (T.memory store.new) ≡ record (kernel_of (T.memory store.old)) { page_entries = overwritten (kernel_of (T.memory store.old)).page_entries 0 (free_entries (first_page pages) pages 0 pages) } }
+    ensures keeps { T.keeps store.old store.new }
+{
+    let base = first_bank_page(pages);
+    for n in 0..pages {
+        let next = following(base, pages, n);
+        set_page_entry(store, n, Entry::Free { next });
+    }
+}
+
+// Makes all nodes behind the fixed ones free, each naming the next one.
+#[tactic(auto, using(crate::proofs::SetupLaws::linking))]
+fn link_nodes<T: Store>(store: &mut T, nodes: u32)
+    requires sized { Sized (kernel_of (T.memory store.old)) }
+    requires all { nodes ≡ (kernel_of (T.memory store.old)).nodes }
+    requires rows { nodes ≤ length (kernel_of (T.memory store.old)).node_entries }
+    ensures linked { kernel_of (T.memory store.new) ≡ record (kernel_of (T.memory store.old)) { node_entries = overwritten (kernel_of (T.memory store.old)).node_entries 15 (free_entries 0 nodes 15 (nodes - 15)) } }
+    ensures keeps { T.keeps store.old store.new }
+{
+    for n in 15..nodes {
+        let next = following(0, nodes, n);
+        set_node_entry(store, NodeId(n), Entry::Free { next });
+    }
+}
+
+// Makes the entries of nodes 0 to 14 fixed.
+#[tactic(auto, using(kn_base::proofs::RowLaws::writes))]
+fn fix_nodes<T: Store>(store: &mut T)
+    requires sized { Sized (kernel_of (T.memory store.old)) }
+    requires rows { 15 ≤ length (kernel_of (T.memory store.old)).node_entries }
+    ensures fixed { kernel_of (T.memory store.new) ≡ record (kernel_of (T.memory store.old)) { node_entries = overwritten (kernel_of (T.memory store.old)).node_entries 0 (replicate 15 Fixed) } }
+    ensures keeps { T.keeps store.old store.new }
+{
+    for n in 0..15 {
+        set_node_entry(store, NodeId(n), Entry::Fixed);
+    }
+}
+
+// Makes a node the root of the service of its number, which is available.
+fn set_service_root<T: Store>(store: &mut T, service: u8)
+    requires { service < (kernel_of (T.memory store.old)).nodes }
+    ensures rooted { kernel_of (T.memory store.new) ≡ record (kernel_of (T.memory store.old)) { keys = with_service_root (kernel_of (T.memory store.old)).keys service } }
+    ensures keeps { T.keeps store.old store.new }
+{
+    let root = NodeId(service as u32);
+    set_key_at(store, root, 0, Key::Service { code: service });
+    set_key_at(store, root, 6, Key::Number([0; 12]));
+}
+
+// Makes nodes 1 to 6 the roots of the services.
+#[tactic(auto, unfolding(crate::specs::Setup::with_service_roots))]
+fn set_service_roots<T: Store>(store: &mut T)
+    requires { 7 ≤ (kernel_of (T.memory store.old)).nodes }
+    ensures rooted { kernel_of (T.memory store.new) ≡ record (kernel_of (T.memory store.old)) { keys = with_service_roots (kernel_of (T.memory store.old)).keys 6 } }
+    ensures keeps { T.keeps store.old store.new }
+{
+    for others in 0..6 {
+        set_service_root(store, others + 1);
+    }
+}
