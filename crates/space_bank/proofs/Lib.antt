@@ -3,3 +3,4 @@ pub mod EntryLaws
 pub mod BankLaws
 pub mod ShareLaws
 pub mod SetupLaws
+pub mod EmptyBank

@@ -2,7 +2,7 @@ use Rattle.std.proofs.Common.{◌≡◌}
 use Rattle.kn_base.specs.Rows.{overwritten}
 use Rattle.kernel_tables.specs.Kernel.{kernel_of, first_page}
 use Rattle.space_bank.specs.Setup.{free_entries}
-use Rattle.space_bank.proofs.setup.link_pages.Given as goal
+use Rattle.space_bank.proofs.empty.link_pages.Given as goal
 
 -- so many pages are linked so far
 abbrev pub invariant-loop-n : goal.invariant-loop-n

@@ -2,7 +2,7 @@ use Rattle.std.proofs.Common.{◌≡◌, replicate}
 use Rattle.kn_base.specs.Rows.{overwritten}
 use Rattle.kernel_tables.specs.declared.entry.Entry.TheVariants.{Fixed}
 use Rattle.kernel_tables.specs.Kernel.{kernel_of}
-use Rattle.space_bank.proofs.setup.fix_nodes.Given as goal
+use Rattle.space_bank.proofs.empty.fix_nodes.Given as goal
 
 -- so many nodes are fixed so far
 abbrev pub invariant-loop-n : goal.invariant-loop-n

@@ -1,14 +1,18 @@
 //! An empty bank on a store of zeros.
 
-ghost use Rattle.std.specs.Prelude.{◌≡◌, ℕ, ◌<◌, ◌≤◌, ◌+◌, ◌-◌, ◌*◌, ◌^◌, Some, length, replicate};
+ghost use Rattle.std.specs.Prelude.{◌≡◌, ℕ, ◌<◌, ◌≤◌, ◌+◌, ◌-◌, ◌*◌, ◌%◌, ◌^◌, Some, length, replicate};
 ghost use Rattle.kn_base.specs.Rows.{overwritten};
-ghost use Rattle.kn_base.specs.Memory.{Memory};
+ghost use Rattle.kn_base.specs.Memory.{Memory, zero_memory};
 ghost use Rattle.kernel_tables.specs.declared.entry.Entry.TheVariants.{Fixed};
-ghost use Rattle.kernel_tables.specs.Kernel.{Kernel, kernel_of, Sized, IsSized, first_page};
+ghost use Rattle.kernel_tables.specs.Kernel.{Kernel, kernel_of, Sized, IsSized, first_page, node_count, zero_kernel};
 ghost use Rattle.space_bank.specs.FreeList.{following};
-ghost use Rattle.space_bank.specs.Setup.{free_entries, with_service_root, with_service_roots};
+ghost use Rattle.space_bank.specs.Setup.{free_entries, with_service_root, with_service_roots, empty_bank};
+ghost use Rattle.space_bank.specs.Bank.{BankGood};
 
-use kernel_tables::{Entry, first_bank_page, set_key_at, set_node_entry, set_page_entry};
+use kernel_tables::{
+    Entry, first_bank_page, set_free_node, set_free_page, set_key_at, set_next_pid, set_node_entry,
+    set_page_entry, set_quantum, set_size,
+};
 use kn_base::{Key, NodeId, Store};
 
 // The object behind that of entry n, or 0 behind the last of `count`.
@@ -85,4 +89,51 @@ fn set_service_roots<T: Store>(store: &mut T)
     for others in 0..6 {
         set_service_root(store, others + 1);
     }
+}
+
+// Writes the words of the machine page that are not 0.
+fn set_words<T: Store>(store: &mut T, pages: u32, quantum: u32)
+    requires sized { Sized (kernel_of (T.memory store.old)) }
+    requires size { pages ≤ 16384 }
+    ensures written { let old = kernel_of (T.memory store.old) in kernel_of (T.memory store.new) ≡ record old { machine = record old.machine { size = pages; quantum = quantum; next_pid = 1; free_page = first_page pages; free_node = 15 } } }
+    ensures keeps { T.keeps store.old store.new }
+{
+    set_size(store, pages);
+    set_quantum(store, quantum);
+    set_next_pid(store, 1);
+    set_free_page(store, first_bank_page(pages));
+    set_free_node(store, 15);
+}
+
+// Makes an empty bank of tables of zeros.
+#[tactic(auto, using(crate::proofs::EmptyBank::making), unfolding(kernel_tables::specs::Kernel::zero_kernel))]
+fn fill<T: Store>(store: &mut T, pages: u32, quantum: u32)
+    requires least { 64 ≤ pages }
+    requires most { pages ≤ 16384 }
+    requires multiple { pages % 64 ≡ 0 }
+    requires zeros { kernel_of (T.memory store.old) ≡ zero_kernel pages }
+    ensures made { kernel_of (T.memory store.new) ≡ empty_bank pages quantum }
+    ensures keeps { T.keeps store.old store.new }
+{
+    set_words(store, pages, quantum);
+    link_pages(store, pages);
+    fix_nodes(store);
+    link_nodes(store, 4 * pages + 1296);
+    set_service_roots(store);
+}
+
+/// Makes an empty bank of `pages` pages on a store of zeros that has the size for so many: all its pages and nodes are
+/// free, but for the fixed ones. A round has `quantum` turns of each process.
+pub fn setup<T: Store>(store: &mut T, pages: u32, quantum: u32)
+    requires least { 64 ≤ pages }
+    requires most { pages ≤ 16384 }
+    requires multiple { pages % 64 ≡ 0 }
+    requires some_turns { 1 ≤ quantum }
+    requires few_turns { quantum ≤ 10000 }
+    requires zeros { T.memory store.old ≡ zero_memory (first_page pages + pages) (node_count pages) }
+    ensures made { kernel_of (T.memory store.new) ≡ empty_bank pages quantum }
+    ensures good { BankGood (kernel_of (T.memory store.new)) }
+    ensures keeps { T.keeps store.old store.new }
+{
+    fill(store, pages, quantum);
 }

@@ -1,7 +1,7 @@
 use Rattle.std.proofs.Common.{arith, rules}
 use Rattle.kernel_tables.specs.Kernel.{first_page}
 use Rattle.space_bank.proofs.SetupLaws.{linking}
-use Rattle.space_bank.proofs.setup.link_pages.Goals as goal
+use Rattle.space_bank.proofs.empty.link_pages.Goals as goal
 
 pub following-next-requires-clause-small : goal.following-next-requires-clause-small
 unfolding first_page

@@ -1,7 +1,7 @@
 use Rattle.std.proofs.Common.{◌≡◌}
 use Rattle.kernel_tables.specs.Kernel.{kernel_of}
 use Rattle.space_bank.specs.Setup.{with_service_roots}
-use Rattle.space_bank.proofs.setup.set_service_roots.Given as goal
+use Rattle.space_bank.proofs.empty.set_service_roots.Given as goal
 
 -- so many services have their root so far
 abbrev pub invariant-loop-others : goal.invariant-loop-others
