@@ -6,6 +6,8 @@ mod entries;
 mod nodes;
 mod pages;
 mod promises;
+#[cfg(test)]
+mod tests;
 
 pub use empty::setup;
 pub use kernel_tables::{NodeOwner, PageOwner};
