@@ -1,15 +1,15 @@
 -- The tables of a store of zeros.
-use Rattle.std.proofs.Common.{◌≡◌, ℕ, ◌+◌, ◌-◌, ◌*◌, ◌/◌, ◌<◌, ◌≤◌, Option, Some, None, List, [], length, drop, replicate, get_or, refl, ap, sym, ◌∙◌, arith}
-use Rattle.std.proofs.lemmas.List.{get_or-replicate, drop-replicate, length-replicate}
+use Rattle.std.proofs.Common.{◌≡◌, ℕ, ◌+◌, ◌-◌, ◌*◌, ◌/◌, ◌<◌, ◌≤◌, Some, [], length, drop, replicate, get_or, refl, ap, ◌∙◌, arith}
+use Rattle.std.proofs.lemmas.List.{get_or-replicate, drop-replicate}
 use Rattle.std.specs.Int.{from_le_bytes, w32}
-use Rattle.kn_base.specs.Memory.{Memory, zero_page, zero_memory}
-use Rattle.kn_base.specs.Rows.{table_at}
+use Rattle.kn_base.specs.Memory.{Memory, page_at, zero_page, zero_memory}
 use Rattle.kn_base.proofs.ZeroLaws.{table_at-zeros, length-zero_memory_pages, length-zero_memory_keys}
 use Rattle.kn_base.specs.declared.key.Key.TheVariants.{Null}
 use Rattle.kernel_tables.specs.declared.entry.Entry.TheVariants.{Free}
-use Rattle.kernel_tables.specs.declared.machine.Machine.{Machine}
+use Rattle.kernel_tables.specs.declared.row.Row.TheVariants.{Free as FreeRow}
+use Rattle.kernel_tables.specs.Files.{inode_entry_of, description_entry_of}
 use Rattle.kernel_tables.specs.Entries.{page_entry_of, node_entry_of}
-use Rattle.kernel_tables.specs.Kernel.{Kernel, kernel_of, tables_of, zero_kernel, machine_of, page_words, node_entry_page, first_page, entry_pages, node_count}
+use Rattle.kernel_tables.specs.Kernel.{kernel_of, tables_of, zero_kernel, machine_of, page_words, node_entry_page, first_page, entry_pages, node_count}
 use Rattle.kernel_tables.proofs.Places.{same_tables}
 
 -- a page of zeros as words
@@ -47,6 +47,18 @@ zeros-node_entry : node_entry_of (replicate 8 0) ≡ Free 0
 unfolding node_entry_of
 zeros-node_entry = refl
 
+zeros-inode : inode_entry_of (replicate 32 0) ≡ FreeRow
+unfolding inode_entry_of
+zeros-inode = refl
+
+zeros-description : description_entry_of (replicate 16 0) ≡ FreeRow
+unfolding description_entry_of
+zeros-description = refl
+
+page_at-zero_memory : (pages nodes page : ℕ) → page < pages → page_at (zero_memory pages nodes) page ≡ zero_page
+unfolding zero_memory
+page_at-zero_memory pages nodes page inside = get_or-replicate pages page zero_page [] inside
+
 zero_memory-bank : (size pages nodes : ℕ) → pages ≡ first_page size + size → drop (first_page size) (zero_memory pages nodes).pages ≡ replicate size zero_page
 unfolding zero_memory
 zero_memory-bank size pages nodes e =
@@ -64,9 +76,11 @@ tables_of-zeros size =
     let nodes : ℕ = node_count size in
     let words = words-zeros pages nodes (omega arith) in
     let counted : length (zero_memory pages nodes).keys / 16 ≡ nodes = omega (arith, length-zero_memory_keys pages nodes) in
-    same_tables size (length-zero_memory_pages pages nodes) counted
+    same_tables size (length-zero_memory_pages pages nodes) counted (page_at-zero_memory pages nodes 0 (omega arith))
     (ap machine_of words ∙ machine_of-zeros 1024 (omega arith))
     (ap (drop 10) words ∙ drop-words 10 1024 0)
+    (table_at-zeros inode_entry_of 32 128 2 8 pages nodes refl (omega arith) ∙ ap (replicate 1024) zeros-inode)
+    (table_at-zeros description_entry_of 16 256 10 8 pages nodes refl (omega arith) ∙ ap (replicate 2048) zeros-description)
     (table_at-zeros page_entry_of 8 512 18 (entry_pages size) pages nodes refl (omega arith)
     ∙ ap (replicate (512 * entry_pages size)) zeros-page_entry)
     (table_at-zeros node_entry_of 8 512 (node_entry_page size) (entry_pages nodes) pages nodes refl (omega arith)

@@ -1,5 +1,5 @@
 -- An empty bank keeps all that a bank keeps.
-use Rattle.std.proofs.Common.{◌≡◌, ◌≢◌, ℕ, zero, suc, ◌+◌, ◌-◌, ◌*◌, ◌%◌, ◌<◌, ◌≤◌, ◌&&◌, Bool, true, false, nat_lt, Option, Some, None, List, [], ◌++◌, map, length, set, get_or, replicate, refl, ap, sym, subst, ◌∙◌, ⊎_elim, arith, rules}
+use Rattle.std.proofs.Common.{◌≡◌, ℕ, zero, suc, ◌+◌, ◌-◌, ◌*◌, ◌%◌, ◌<◌, ◌≤◌, ◌&&◌, Bool, true, false, nat_lt, Option, Some, None, List, [], ◌++◌, map, length, set, replicate, refl, ap, sym, subst, ◌∙◌, ⊎_elim, arith, rules}
 use Rattle.std.proofs.Math.Bool.{and-false}
 use Rattle.std.proofs.lemmas.Bool.{cases_lt, ltb-true}
 use Rattle.std.proofs.lemmas.List.{places, same_lists, length-append, length-replicate, length-set, get_or-replicate, get_or_append_left, get_or-append_right, get_or_past, get_or-set_other}
@@ -8,7 +8,7 @@ use Rattle.std.proofs.lemmas.List.Folds.{sum_by-replicate}
 use Rattle.std.proofs.lemmas.List.Sums.{sum_by-append, sum_by-cons}
 use Rattle.std.specs.List.{range_with_len, sum_by}
 use Rattle.kn_base.specs.declared.key.Key.{Key}
-use Rattle.kn_base.specs.declared.key.Key.TheVariants.{Null, Number, Service}
+use Rattle.kn_base.specs.declared.key.Key.TheVariants.{Null}
 use Rattle.kn_base.specs.Memory.{zero_page}
 use Rattle.kn_base.specs.Rows.{overwritten}
 use Rattle.kn_base.proofs.RowLaws.{overwritten-none, length-overwritten}
@@ -17,10 +17,13 @@ use Rattle.kernel_tables.specs.declared.entry.NodeOwner.{NodeOwner}
 use Rattle.kernel_tables.specs.declared.entry.Entry.{Entry}
 use Rattle.kernel_tables.specs.declared.entry.Entry.TheVariants.{Free, Fixed, Unspelled}
 use Rattle.kernel_tables.specs.Kernel.{Kernel, zero_kernel, first_page, entry_pages, node_count}
+use Rattle.kernel_tables.specs.declared.row.Row.TheVariants.{Used}
+use Rattle.space_bank.specs.Fixed.{console_inode, empty_root}
 use Rattle.space_bank.specs.FreeList.{entry_at, is_free, is_free_at, taken_one, shares, following, Linked, taken_count}
 use Rattle.space_bank.specs.Bank.{BankGood, EntriesGood, PagesGood, NodesGood, memory_count, memory_taken_one}
 use Rattle.space_bank.specs.Setup.{free_entries, empty_entries, with_service_roots, empty_bank}
 use Rattle.space_bank.proofs.SetupLaws.{linked-free_list}
+use Rattle.space_bank.proofs.FreshLaws.{length-with_service_roots, key-above}
 use Rattle.space_bank.proofs.BankLaws.{first_page-some}
 
 length-free_entries : (O : Type 0) (base count start n : ℕ) → length (free_entries {O = O} base count start n) ≡ n
@@ -151,28 +154,6 @@ entries_good-empty O base count fixed some few =
       unused = λ n past row. empty-behind O base count fixed n most past (omega arith);
     }
 
--- keys beside the roots of the services
-length-with_service_roots : (keys : List (Option Key)) (n : ℕ) → length (with_service_roots keys n) ≡ length keys
-unfolding with_service_roots
-length-with_service_roots keys zero = refl
-length-with_service_roots keys (suc n) =
-    let before = with_service_roots keys n in
-    length-set (set before (16 * (n + 1)) (Some (Service (n + 1)))) (16 * (n + 1) + 6) (Some (Number (replicate 12 0)))
-    ∙ length-set before (16 * (n + 1)) (Some (Service (n + 1)))
-    ∙ length-with_service_roots keys n
-
-key-above : (keys : List (Option Key)) (n place : ℕ) → 16 * n + 16 ≤ place → get_or (with_service_roots keys n) place None ≡ get_or keys place None
-unfolding with_service_roots
-key-above keys zero place above = refl
-key-above keys (suc n) place above =
-    let before = with_service_roots keys n in
-    let state : place ≢ 16 * (n + 1) + 6 = λ e. absurd (omega arith) in
-    let service : place ≢ 16 * (n + 1) = λ e. absurd (omega arith) in
-    get_or-set_other (set before (16 * (n + 1)) (Some (Service (n + 1)))) (16 * (n + 1) + 6) place (Some (Number (replicate 12 0)))
-    None state
-    ∙ get_or-set_other before (16 * (n + 1)) place (Some (Service (n + 1))) None service
-    ∙ key-above keys n place (omega arith)
-
 and_left : (a b : Bool) → (a && b) ≡ true → a ≡ true
 and_left true b h = refl
 and_left false b h = h
@@ -264,6 +245,9 @@ made_pages size =
 abbrev words_written : ℕ → ℕ → Kernel → Kernel
 words_written size quantum kernel = record kernel { machine = record kernel.machine { size = size; quantum = quantum; next_pid = 1; free_page = first_page size; free_node = 15 } }
 
+abbrev inodes_written : Kernel → Kernel
+inodes_written kernel = record kernel { inodes = set (set kernel.inodes 0 (Used console_inode)) 1 (Used empty_root) }
+
 abbrev pages_linked : ℕ → Kernel → Kernel
 pages_linked size kernel = record kernel { page_entries = overwritten kernel.page_entries 0 (free_entries (first_page size) size 0 size) }
 
@@ -276,7 +260,7 @@ nodes_linked nodes kernel = record kernel { node_entries = overwritten kernel.no
 abbrev services_rooted : Kernel → Kernel
 services_rooted kernel = record kernel { keys = with_service_roots kernel.keys 6 }
 
-steps_make : (size quantum : ℕ) → services_rooted (nodes_linked (node_count size) (nodes_fixed (pages_linked size (words_written size quantum (zero_kernel size))))) ≡ empty_bank size quantum
+steps_make : (size quantum : ℕ) → services_rooted (nodes_linked (node_count size) (nodes_fixed (pages_linked size (inodes_written (words_written size quantum (zero_kernel size)))))) ≡ empty_bank size quantum
 unfolding empty_bank zero_kernel
 steps_make size quantum =
     let kernel = empty_bank size quantum in
@@ -284,13 +268,13 @@ steps_make size quantum =
     ap (λ (entries : List (Entry PageOwner)). record kernel { page_entries = entries; node_entries = nodes }) (made_pages size)
     ∙ ap (λ (entries : List (Entry NodeOwner)). record kernel { node_entries = entries }) (made_entries NodeOwner 0 (node_count size) 15 (omega arith))
 
-pub made_bank : (size quantum : ℕ) (zeros words pages fixed linked rooted : Kernel) → zeros ≡ zero_kernel size → words ≡ words_written size quantum zeros → pages ≡ pages_linked size words → fixed ≡ nodes_fixed pages → linked ≡ nodes_linked (node_count size) fixed → rooted ≡ services_rooted linked → rooted ≡ empty_bank size quantum
-made_bank size quantum zeros words pages fixed linked rooted a b c d e f =
+pub made_bank : (size quantum : ℕ) (zeros words inodes pages fixed linked rooted : Kernel) → zeros ≡ zero_kernel size → words ≡ words_written size quantum zeros → inodes ≡ inodes_written words → pages ≡ pages_linked size inodes → fixed ≡ nodes_fixed pages → linked ≡ nodes_linked (node_count size) fixed → rooted ≡ services_rooted linked → rooted ≡ empty_bank size quantum
+made_bank size quantum zeros words inodes pages fixed linked rooted a b i c d e f =
     f
     ∙ ap services_rooted
     (e
     ∙ ap (nodes_linked (node_count size))
-    (d ∙ ap nodes_fixed (c ∙ ap (pages_linked size) (b ∙ ap (words_written size quantum) a))))
+    (d ∙ ap nodes_fixed (c ∙ ap (pages_linked size) (i ∙ ap inodes_written (b ∙ ap (words_written size quantum) a)))))
     ∙ steps_make size quantum
 
 -- for the function that makes the tables: the entries of zeros are all there

@@ -1,5 +1,6 @@
 -- in reading order
 pub mod FreeList
 pub mod Bank
-pub mod Setup
 pub mod Shares
+pub mod Fixed
+pub mod Setup

@@ -1,17 +1,19 @@
 //! An empty bank on a store of zeros.
 
-ghost use Rattle.std.specs.Prelude.{◌≡◌, ℕ, ◌<◌, ◌≤◌, ◌+◌, ◌-◌, ◌*◌, ◌%◌, ◌^◌, Some, length, replicate};
+ghost use Rattle.std.specs.Prelude.{◌≡◌, ℕ, ◌<◌, ◌≤◌, ◌+◌, ◌-◌, ◌*◌, ◌%◌, ◌^◌, Some, length, replicate, slice_set};
 ghost use Rattle.kn_base.specs.Rows.{overwritten};
 ghost use Rattle.kn_base.specs.Memory.{Memory, zero_memory};
 ghost use Rattle.kernel_tables.specs.declared.entry.Entry.TheVariants.{Fixed};
 ghost use Rattle.kernel_tables.specs.Kernel.{Kernel, kernel_of, Sized, IsSized, first_page, node_count, zero_kernel};
+ghost use Rattle.kernel_tables.specs.declared.row.Row.TheVariants.{Used};
+ghost use Rattle.space_bank.specs.Fixed.{state_key, console_inode, empty_root, UnusedGood, FreshNodes, FreshFiles};
 ghost use Rattle.space_bank.specs.FreeList.{following};
 ghost use Rattle.space_bank.specs.Setup.{free_entries, with_service_root, with_service_roots, empty_bank};
 ghost use Rattle.space_bank.specs.Bank.{BankGood};
 
 use kernel_tables::{
-    Entry, first_bank_page, set_free_node, set_free_page, set_key_at, set_next_pid, set_node_entry,
-    set_page_entry, set_quantum, set_size,
+    Entry, Inode, InodeKind, Row, first_bank_page, set_free_node, set_free_page, set_inode_entry,
+    set_key_at, set_next_pid, set_node_entry, set_page_entry, set_quantum, set_size,
 };
 use kn_base::{Key, NodeId, Store};
 
@@ -68,6 +70,13 @@ fn fix_nodes<T: Store>(store: &mut T)
     }
 }
 
+// Key 6 of the root of a domain that is available and has made no call.
+fn first_state() -> Key
+    ensures { result ≡ state_key 0 0 }
+{
+    Key::Number([0; 12])
+}
+
 // Makes a node the root of the service of its number, which is available.
 fn set_service_root<T: Store>(store: &mut T, service: u8)
     requires { service < (kernel_of (T.memory store.old)).nodes }
@@ -76,7 +85,7 @@ fn set_service_root<T: Store>(store: &mut T, service: u8)
 {
     let root = NodeId(service as u32);
     set_key_at(store, root, 0, Key::Service { code: service });
-    set_key_at(store, root, 6, Key::Number([0; 12]));
+    set_key_at(store, root, 6, first_state());
 }
 
 // Makes nodes 1 to 6 the roots of the services.
@@ -89,6 +98,31 @@ fn set_service_roots<T: Store>(store: &mut T)
     for others in 0..6 {
         set_service_root(store, others + 1);
     }
+}
+
+// Makes inode 0 the console and inode 1 the empty root, which is its own parent and counts as named once.
+fn set_first_inodes<T: Store>(store: &mut T)
+    requires { Sized (kernel_of (T.memory store.old)) }
+    ensures written { let old = kernel_of (T.memory store.old) in kernel_of (T.memory store.new) ≡ record old { inodes = slice_set (slice_set old.inodes 0 (Used console_inode)) 1 (Used empty_root) } }
+    ensures keeps { T.keeps store.old store.new }
+{
+    let console = Inode {
+        kind: InodeKind::Console,
+        length: 0,
+        entries: 0,
+        opens: 0,
+        root: 0,
+        parent: 0,
+        start: 0,
+    };
+    let root = Inode {
+        kind: InodeKind::Dir,
+        entries: 1,
+        parent: 1,
+        ..console
+    };
+    set_inode_entry(store, 0, Row::Used(console));
+    set_inode_entry(store, 1, Row::Used(root));
 }
 
 // Writes the words of the machine page that are not 0.
@@ -116,6 +150,7 @@ fn fill<T: Store>(store: &mut T, pages: u32, quantum: u32)
     ensures keeps { T.keeps store.old store.new }
 {
     set_words(store, pages, quantum);
+    set_first_inodes(store);
     link_pages(store, pages);
     fix_nodes(store);
     link_nodes(store, 4 * pages + 1296);
@@ -133,6 +168,9 @@ pub fn setup<T: Store>(store: &mut T, pages: u32, quantum: u32)
     requires zeros { T.memory store.old ≡ zero_memory (first_page pages + pages) (node_count pages) }
     ensures made { kernel_of (T.memory store.new) ≡ empty_bank pages quantum }
     ensures good { BankGood (kernel_of (T.memory store.new)) }
+    ensures unused { let new = kernel_of (T.memory store.new) in UnusedGood new.page_zero new.other_words }
+    ensures nodes { FreshNodes (kernel_of (T.memory store.new)).keys }
+    ensures files { let new = kernel_of (T.memory store.new) in FreshFiles new.inodes new.descriptions }
     ensures keeps { T.keeps store.old store.new }
 {
     fill(store, pages, quantum);
