@@ -46,8 +46,8 @@ machine_of-set words n word h =
     cc
 
 -- tables whose fields are equal
-same_tables : (size : ℕ) {pages pages' : ℕ} → pages ≡ pages' → (nodes : ℕ) {page_zero page_zero' : List ℕ} → page_zero ≡ page_zero' → {machine machine' : Machine} → machine ≡ machine' → {others others' : List ℕ} → others ≡ others' → {inodes inodes' : List (Row Inode)} → inodes ≡ inodes' → {descriptions descriptions' : List (Row Description)} → descriptions ≡ descriptions' → {page_entries page_entries' : List (Entry PageOwner)} → page_entries ≡ page_entries' → {node_entries node_entries' : List (Entry NodeOwner)} → node_entries ≡ node_entries' → {bank bank' : List (List ℕ)} → bank ≡ bank' → (keys : List (Option Key)) → (let k : Kernel = record { size = size; pages = pages; nodes = nodes; page_zero = page_zero; machine = machine; other_words = others; inodes = inodes; descriptions = descriptions; page_entries = page_entries; node_entries = node_entries; bank = bank; keys = keys } in k) ≡ record { size = size; pages = pages'; nodes = nodes; page_zero = page_zero'; machine = machine'; other_words = others'; inodes = inodes'; descriptions = descriptions'; page_entries = page_entries'; node_entries = node_entries'; bank = bank'; keys = keys }
-same_tables size p nodes z m o i d pe ne b keys = cc
+pub same_tables : (size : ℕ) {pages pages' : ℕ} → pages ≡ pages' → {nodes nodes' : ℕ} → nodes ≡ nodes' → {page_zero page_zero' : List ℕ} → page_zero ≡ page_zero' → {machine machine' : Machine} → machine ≡ machine' → {others others' : List ℕ} → others ≡ others' → {inodes inodes' : List (Row Inode)} → inodes ≡ inodes' → {descriptions descriptions' : List (Row Description)} → descriptions ≡ descriptions' → {page_entries page_entries' : List (Entry PageOwner)} → page_entries ≡ page_entries' → {node_entries node_entries' : List (Entry NodeOwner)} → node_entries ≡ node_entries' → {bank bank' : List (List ℕ)} → bank ≡ bank' → {keys keys' : List (Option Key)} → keys ≡ keys' → (let k : Kernel = record { size = size; pages = pages; nodes = nodes; page_zero = page_zero; machine = machine; other_words = others; inodes = inodes; descriptions = descriptions; page_entries = page_entries; node_entries = node_entries; bank = bank; keys = keys } in k) ≡ record { size = size; pages = pages'; nodes = nodes'; page_zero = page_zero'; machine = machine'; other_words = others'; inodes = inodes'; descriptions = descriptions'; page_entries = page_entries'; node_entries = node_entries'; bank = bank'; keys = keys' }
+same_tables size p n z m o i d pe ne b k = cc
 
 -- a word of the machine page is written
 pub tables_of-word : (size : ℕ) (memory : Memory) (n word at : ℕ) (part : List ℕ) → first_page size ≤ length memory.pages → length (page_at memory 1) ≡ 4096 → n < 10 → 4 * n ≡ at → length part ≡ 4 → from_le_bytes w32 part ≡ word → tables_of size (record memory { pages = set memory.pages 1 (overwritten (page_at memory 1) at part) }) ≡ record (tables_of size memory) { machine = with_word (tables_of size memory).machine n word }
@@ -73,7 +73,7 @@ tables_of-word size memory n word at part inside whole low place four spelled =
     let page_entries = table_at-below page_entry_of 8 512 18 (entry_pages size) memory.pages 1 new (omega arith) in
     let node_entries = table_at-below node_entry_of 8 512 (18 + entry_pages size) (entry_pages (node_count size)) memory.pages 1 new (omega arith) in
     let bank = drop-set-lt (18 + entry_pages size + entry_pages (node_count size)) memory.pages 1 new (omega arith) in
-    same_tables size sizes (length memory.keys / 16) page_zero machine others inodes descriptions page_entries node_entries bank memory.keys
+    same_tables size sizes refl page_zero machine others inodes descriptions page_entries node_entries bank refl
 
 -- a page of the bank by its number
 pub get_or-bank : (first : ℕ) (pages : List (List ℕ)) (page : ℕ) → first ≤ page → get_or pages page [] ≡ get_or (drop first pages) (page - first) []

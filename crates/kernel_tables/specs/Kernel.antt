@@ -1,17 +1,19 @@
 -- What a store of a machine holds.
-use Rattle.std.specs.Prelude.{◌≡◌, ℕ, ◌+◌, ◌-◌, ◌*◌, ◌/◌, ◌%◌, ◌<◌, ◌≤◌, ◌==◌, if◌then◌else◌, Option, List, [], length, drop, slice_index, slice_index_or, slice_set}
+use Rattle.std.specs.Prelude.{◌≡◌, ℕ, ◌+◌, ◌-◌, ◌*◌, ◌/◌, ◌%◌, ◌<◌, ◌≤◌, ◌==◌, if◌then◌else◌, Option, Some, List, [], length, drop, replicate, slice_index, slice_index_or, slice_set}
 use Rattle.std.specs.Int.{from_le_bytes, w32}
 use Rattle.kn_base.specs.declared.key.Key.{Key}
+use Rattle.kn_base.specs.declared.key.Key.TheVariants.{Null}
 use Rattle.kn_base.specs.Rows.{table_at}
-use Rattle.kn_base.specs.Memory.{Memory, page_at}
+use Rattle.kn_base.specs.Memory.{Memory, page_at, zero_page}
 use Rattle.kernel_tables.specs.declared.row.Row.{Row}
-use Rattle.kernel_tables.specs.declared.row.Row.TheVariants.{Unspelled}
+use Rattle.kernel_tables.specs.declared.row.Row.TheVariants.{Unspelled, Free as FreeRow}
 use Rattle.kernel_tables.specs.declared.inode.Inode.{Inode}
 use Rattle.kernel_tables.specs.declared.description.Description.{Description}
 use Rattle.kernel_tables.specs.Files.{inode_entry_of, description_entry_of}
 use Rattle.kernel_tables.specs.declared.entry.PageOwner.{PageOwner}
 use Rattle.kernel_tables.specs.declared.entry.NodeOwner.{NodeOwner}
 use Rattle.kernel_tables.specs.declared.entry.Entry.{Entry}
+use Rattle.kernel_tables.specs.declared.entry.Entry.TheVariants.{Free}
 use Rattle.kernel_tables.specs.declared.machine.Machine.{Machine}
 use Rattle.kernel_tables.specs.Entries.{page_entry_of, node_entry_of}
 
@@ -102,6 +104,23 @@ tables_of size memory =
 
 unfoldable pub kernel_of : Memory → Kernel
 kernel_of memory = tables_of ((length memory.keys / 16 - 1296) / 4) memory
+
+-- the tables of a store of zeros of the size for so many pages
+unfoldable pub zero_kernel : ℕ → Kernel
+zero_kernel size = record {
+  size = size;
+  pages = first_page size + size;
+  nodes = node_count size;
+  page_zero = zero_page;
+  machine = machine_of [];
+  other_words = replicate 1014 0;
+  inodes = replicate 1024 FreeRow;
+  descriptions = replicate 2048 FreeRow;
+  page_entries = replicate (512 * entry_pages size) (Free 0);
+  node_entries = replicate (512 * entry_pages (node_count size)) (Free 0);
+  bank = replicate size zero_page;
+  keys = replicate (16 * node_count size) (Some Null);
+}
 
 -- The sizes of a store for a bank of `size` pages, which are a multiple of 64 from 64 to 16,384.
 pub record IsSized (size pages nodes : ℕ) : Type 0 where

@@ -4,3 +4,5 @@ pub mod BankLaws
 pub mod ShareLaws
 pub mod SetupLaws
 pub mod FixedLaws
+pub mod FreshLaws
+pub mod EmptyBank

@@ -1,11 +1,15 @@
 //! The space bank: which pages and nodes of the store are free, and how many pages are promised.
 #![tactic(auto)]
 
+mod empty;
 mod entries;
 mod nodes;
 mod pages;
 mod promises;
+#[cfg(test)]
+mod tests;
 
+pub use empty::setup;
 pub use kernel_tables::{NodeOwner, PageOwner};
 pub use nodes::{give_node, take_node};
 pub use pages::{give_page, take_page};

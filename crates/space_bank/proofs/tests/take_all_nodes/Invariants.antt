@@ -1,0 +1,7 @@
+use Rattle.kernel_tables.specs.Kernel.{kernel_of}
+use Rattle.space_bank.specs.Bank.{BankGood}
+use Rattle.space_bank.proofs.tests.take_all_nodes.Given as goal
+
+-- the bank stays good
+abbrev pub invariant-loop : goal.invariant-loop
+invariant-loop g l = BankGood (kernel_of (g.T.Store.memory l.store))
