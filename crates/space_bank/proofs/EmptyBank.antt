@@ -83,7 +83,7 @@ empty-behind O base count fixed n few past inside =
     ∙ get_or-replicate (rows - count) (n - fixed - (count - fixed)) (Free 0) Unspelled place
 
 -- an entry of an empty bank is fixed, or free, or isn't there
-empty_cases : {O : Type 0} (P : Entry O → Type 0) (base count fixed : ℕ) → fixed ≤ count → P Fixed → ((next : ℕ) → P (Free next)) → P Unspelled → (n : ℕ) → P (entry_at (empty_entries base count fixed) n)
+pub empty_cases : {O : Type 0} (P : Entry O → Type 0) (base count fixed : ℕ) → fixed ≤ count → P Fixed → ((next : ℕ) → P (Free next)) → P Unspelled → (n : ℕ) → P (entry_at (empty_entries base count fixed) n)
 empty_cases {O} P base count fixed few is_fixed free absent n =
     ⊎_elim (λ (low : n < fixed). subst P (sym (empty-fixed O base count fixed n low)) is_fixed)
     (λ (past : fixed ≤ n).

@@ -1,5 +1,5 @@
 -- What taking and giving an object leave of the share counts.
-use Rattle.std.proofs.Common.{◌≡◌, ◌≢◌, ℕ, suc, ◌+◌, ◌*◌, ◌<◌, ◌≤◌, ◌==◌, cond, Bool, true, false, Option, Some, None, List, [], ◌∷◌, ◌++◌, length, take, drop, replicate, set, get_or, refl, ap, sym, subst, ◌∙◌, arith}
+use Rattle.std.proofs.Common.{◌≡◌, ◌≢◌, ℕ, suc, ◌+◌, ◌-◌, ◌*◌, ◌<◌, ◌≤◌, ◌==◌, cond, Bool, true, false, Option, Some, None, List, [], ◌∷◌, ◌++◌, length, take, drop, replicate, set, get_or, refl, ap, sym, subst, ◌∙◌, arith}
 use Rattle.std.proofs.lemmas.Bool.{eqb-true, ne_eqb}
 use Rattle.std.proofs.lemmas.List.{get_or-drop, get_or-take, get_or-replicate, length-replicate, length-take, drop-drop}
 use Rattle.std.proofs.lemmas.List.Sums.{sum_by-cons, sum_by-append, sum_by-take-drop}
@@ -15,7 +15,7 @@ use Rattle.kernel_tables.specs.Kernel.{Kernel, first_page}
 use Rattle.space_bank.specs.FreeList.{entry_at, is_free, shares}
 use Rattle.space_bank.specs.Bank.{IsFirstFree, IsTakenOnce, page_taken, page_given, node_taken, node_given}
 use Rattle.space_bank.specs.Fixed.{key_in}
-use Rattle.space_bank.specs.Shares.{SharesAgree, Shares, Outside, Unnamed, PutsPageInHand, PutsNodeInHand, TakesPageOutOfHand, TakesNodeOutOfHand, NamesNothing, key_names_page, key_names_node, spelled_and, spelled_keys, node_keys, page_places, node_places, page_in_hand, node_in_hand, page_names, node_names}
+use Rattle.space_bank.specs.Shares.{SharesAgree, Shares, Outside, Unnamed, NoneNamed, PutsPageInHand, PutsNodeInHand, TakesPageOutOfHand, TakesNodeOutOfHand, NamesNothing, key_names_page, key_names_node, spelled_and, spelled_keys, node_keys, page_places, node_places, page_in_hand, node_in_hand, page_names, node_names}
 use Rattle.space_bank.proofs.FreeListLaws.{entry_inside}
 use Rattle.space_bank.proofs.EntryLaws.{set_cases, free_spelled}
 
@@ -126,7 +126,7 @@ unfolding node_in_hand
 node-other_in_hand keys outside hand id key h = let e = in_hand-cons (key_names_node id) key hand false h in omega arith
 
 -- what the places of a node count for
-sum_by-none : {X : Type 0} (f : X → ℕ) (xs : List X) (d : X) → ((k : ℕ) → k < length xs → f (get_or xs k d) ≡ 0) → sum_by f xs ≡ 0
+pub sum_by-none : {X : Type 0} (f : X → ℕ) (xs : List X) (d : X) → ((k : ℕ) → k < length xs → f (get_or xs k d) ≡ 0) → sum_by f xs ≡ 0
 sum_by-none f [] d none = refl
 sum_by-none f (x ∷ xs) d none =
     let first : f x ≡ 0 = none 0 (omega arith) in
@@ -364,6 +364,30 @@ node-given_out_of_hand kernel new n low below once e = record {
       (λ id. node-idle kernel.keys n outside hand id nothing) counted);
 }
 
--- an object that is counted once and in hand stands at no place
-pub in_hand-unnamed : (places outside in_hand : ℕ) → 1 ≡ places + outside + (1 + in_hand) → places ≡ 0
-in_hand-unnamed places outside in_hand e = omega arith
+-- Keys that become Null name nothing more.
+pub none_named-nulls : (keys : List (Option Key)) (node : ℕ) → NoneNamed keys → NoneNamed (overwritten keys (16 * node) (replicate 16 (Some Null)))
+unfolding page_places node_places
+none_named-nulls keys node none = record {
+  no_page = λ id. let e = nulls-counted (key_names_page id) keys (16 * node) refl in let all = none.no_page id in omega arith;
+  no_node = λ id. let e = nulls-counted (key_names_node id) keys (16 * node) refl in let all = none.no_node id in omega arith;
+}
+
+-- A page or node that is counted once, and that a key in hand names, stands at no place: it may be given back.
+pub page-in_hand_unnamed : (kernel : Kernel) (page : ℕ) (outside : Outside) (hand : List Key) (key : Key) → first_page kernel.size ≤ page → page < first_page kernel.size + kernel.size → IsTakenOnce (entry_at kernel.page_entries (page - first_page kernel.size)) → key_names_page page key ≡ true → Shares kernel outside (key ∷ hand) → page_places kernel.keys page ≡ 0
+page-in_hand_unnamed kernel page outside hand key low high once named counted =
+    let n = page - first_page kernel.size in
+    let number : first_page kernel.size + n ≡ page = omega arith in
+    let one = shared_once (entry_at kernel.page_entries n) once in
+    let agreed = counted.of_pages.agree n (omega arith) (omega arith) in
+    let e : 1 ≡ page_names kernel.keys outside (key ∷ hand) page = sym one ∙ agreed ∙ ap (page_names kernel.keys outside (key ∷ hand)) number in
+    let more = page-named_in_hand kernel.keys outside hand page key named in
+    omega arith
+
+pub node-in_hand_unnamed : (kernel : Kernel) (node : ℕ) (outside : Outside) (hand : List Key) (key : Key) → 15 ≤ node → node < kernel.nodes → IsTakenOnce (entry_at kernel.node_entries node) → key_names_node node key ≡ true → Shares kernel outside (key ∷ hand) → node_places kernel.keys node ≡ 0
+node-in_hand_unnamed kernel node outside hand key low high once named counted =
+    let zero_add : 0 + node ≡ node = omega arith in
+    let one = shared_once (entry_at kernel.node_entries node) once in
+    let agreed = counted.of_nodes.agree node low high in
+    let e : 1 ≡ node_names kernel.keys outside (key ∷ hand) node = sym one ∙ agreed ∙ ap (node_names kernel.keys outside (key ∷ hand)) zero_add in
+    let more = node-named_in_hand kernel.keys outside hand node key named in
+    omega arith

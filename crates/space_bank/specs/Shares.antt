@@ -72,6 +72,11 @@ page_places keys id = count_by (spelled_and (key_names_page id)) keys
 unfoldable pub node_places : List (Option Key) → ℕ → ℕ
 node_places keys id = count_by (spelled_and (key_names_node id)) keys
 
+-- no key of a node names a page or a node
+pub record NoneNamed (keys : List (Option Key)) : Type 0 where
+  pub no_page : (id : ℕ) → page_places keys id ≡ 0
+  pub no_node : (id : ℕ) → node_places keys id ≡ 0
+
 -- how many keys in hand name them. In hand are the keys that a call holds between places.
 unfoldable pub page_in_hand : List Key → ℕ → ℕ
 page_in_hand hand id = count_by (key_names_page id) hand
@@ -83,6 +88,9 @@ node_in_hand hand id = count_by (key_names_node id) hand
 pub record Outside : Type 0 where
   pub pages : ℕ → ℕ
   pub nodes : ℕ → ℕ
+
+abbrev pub nothing_outside : Outside
+nothing_outside = record { pages = λ id. 0; nodes = λ id. 0 }
 
 -- how often a page and a node are named in all
 abbrev pub page_names : List (Option Key) → Outside → List Key → ℕ → ℕ

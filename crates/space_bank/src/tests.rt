@@ -6,6 +6,7 @@ ghost use Rattle.kernel_tables.specs.Kernel.{Kernel, kernel_of, Sized, IsSized, 
 ghost use Rattle.obj_store.specs.Store.{ram_memory};
 ghost use Rattle.space_bank.specs.Bank.{BankGood, IsTakenOnce};
 ghost use Rattle.space_bank.specs.Setup.{empty_bank};
+ghost use Rattle.space_bank.specs.Shares.{NoneNamed, page_places, node_places};
 
 use super::{
     NodeOwner, PageOwner, Taken, give_node, give_page, machine_word, promise, promised, setup,
@@ -26,6 +27,7 @@ fn bank_of(alloc: Global, pages: u32) -> Result<RamStore, NoMemory>
     requires multiple { pages % 64 ≡ 0 }
     ensures made { IfOk result (λ store. kernel_of (ram_memory store) ≡ empty_bank pages 100) }
     ensures good { IfOk result (λ store. BankGood (kernel_of (ram_memory store))) }
+    ensures unnamed { IfOk result (λ store. NoneNamed (kernel_of (ram_memory store)).keys) }
 {
     let all_pages = first_bank_page(pages) + pages;
     match RamStore::new(alloc, all_pages, 4 * pages + 1296) {
@@ -50,7 +52,9 @@ fn is_taken_once<O: Copy>(entry: Entry<O>) -> bool
 // Takes a page of a bank of 64 pages that was not taken before.
 fn take_another_page<T: Store>(rt: &impl Abort, store: &mut T, taken: &mut [bool; 64])
     requires good { BankGood (kernel_of (T.memory store.old)) }
+    requires unnamed { NoneNamed (kernel_of (T.memory store.old)).keys }
     ensures good { BankGood (kernel_of (T.memory store.new)) }
+    ensures unnamed { NoneNamed (kernel_of (T.memory store.new)).keys }
 {
     match take_page(store, PageOwner::Memory) {
         Some(page) => {
@@ -66,7 +70,9 @@ fn take_another_page<T: Store>(rt: &impl Abort, store: &mut T, taken: &mut [bool
 // Takes all 64 pages of a bank, and finds no other one.
 fn take_all_pages<T: Store>(rt: &impl Abort, store: &mut T)
     requires good { BankGood (kernel_of (T.memory store.old)) }
+    requires unnamed { NoneNamed (kernel_of (T.memory store.old)).keys }
     ensures good { BankGood (kernel_of (T.memory store.new)) }
+    ensures unnamed { NoneNamed (kernel_of (T.memory store.new)).keys }
 {
     let mut taken = [false; 64];
     for _ in 0..64 {
@@ -79,7 +85,9 @@ fn take_all_pages<T: Store>(rt: &impl Abort, store: &mut T)
 #[tactic(auto, unfolding(kernel_tables::specs::Kernel::first_page))]
 fn give_page_back<T: Store>(rt: &impl Abort, store: &mut T, page: PageId)
     requires good { BankGood (kernel_of (T.memory store.old)) }
+    requires unnamed { NoneNamed (kernel_of (T.memory store.old)).keys }
     ensures good { BankGood (kernel_of (T.memory store.new)) }
+    ensures unnamed { NoneNamed (kernel_of (T.memory store.new)).keys }
 {
     let size = bank_size(store);
     let first = first_bank_page(size);
@@ -92,7 +100,9 @@ fn give_page_back<T: Store>(rt: &impl Abort, store: &mut T, page: PageId)
 // Gives all 64 pages of a bank back, each seventh one of those that are left in turn.
 fn give_all_pages_back<T: Store>(rt: &impl Abort, store: &mut T)
     requires good { BankGood (kernel_of (T.memory store.old)) }
+    requires unnamed { NoneNamed (kernel_of (T.memory store.old)).keys }
     ensures good { BankGood (kernel_of (T.memory store.new)) }
+    ensures unnamed { NoneNamed (kernel_of (T.memory store.new)).keys }
 {
     for n in 0..64 {
         give_page_back(rt, store, PageId(23 + 37 * n % 64));
@@ -102,7 +112,9 @@ fn give_all_pages_back<T: Store>(rt: &impl Abort, store: &mut T)
 // Takes a node of a bank of 64 pages that was not taken before.
 fn take_another_node<T: Store>(rt: &impl Abort, store: &mut T, taken: &mut [bool; 1552])
     requires good { BankGood (kernel_of (T.memory store.old)) }
+    requires unnamed { NoneNamed (kernel_of (T.memory store.old)).keys }
     ensures good { BankGood (kernel_of (T.memory store.new)) }
+    ensures unnamed { NoneNamed (kernel_of (T.memory store.new)).keys }
 {
     match take_node(store, NodeOwner::Tree) {
         Some(node) => {
@@ -118,7 +130,9 @@ fn take_another_node<T: Store>(rt: &impl Abort, store: &mut T, taken: &mut [bool
 // Takes all 1,537 free nodes of a bank of 64 pages, and finds no other one.
 fn take_all_nodes<T: Store>(rt: &impl Abort, store: &mut T)
     requires good { BankGood (kernel_of (T.memory store.old)) }
+    requires unnamed { NoneNamed (kernel_of (T.memory store.old)).keys }
     ensures good { BankGood (kernel_of (T.memory store.new)) }
+    ensures unnamed { NoneNamed (kernel_of (T.memory store.new)).keys }
 {
     let mut taken = [false; 1552];
     for _ in 0..1537 {
@@ -130,7 +144,9 @@ fn take_all_nodes<T: Store>(rt: &impl Abort, store: &mut T)
 // Gives a node back that is taken and named once.
 fn give_node_back<T: Store>(rt: &impl Abort, store: &mut T, node: NodeId)
     requires good { BankGood (kernel_of (T.memory store.old)) }
+    requires unnamed { NoneNamed (kernel_of (T.memory store.old)).keys }
     ensures good { BankGood (kernel_of (T.memory store.new)) }
+    ensures unnamed { NoneNamed (kernel_of (T.memory store.new)).keys }
 {
     let nodes = 4 * bank_size(store) + 1296;
     assert!(rt; node.0 < nodes);
@@ -142,7 +158,9 @@ fn give_node_back<T: Store>(rt: &impl Abort, store: &mut T, node: NodeId)
 // Gives all 1,537 nodes back that were taken, in an order of their own.
 fn give_all_nodes_back<T: Store>(rt: &impl Abort, store: &mut T)
     requires good { BankGood (kernel_of (T.memory store.old)) }
+    requires unnamed { NoneNamed (kernel_of (T.memory store.old)).keys }
     ensures good { BankGood (kernel_of (T.memory store.new)) }
+    ensures unnamed { NoneNamed (kernel_of (T.memory store.new)).keys }
 {
     for n in 0..1537 {
         give_node_back(rt, store, NodeId(15 + 1000 * n % 1537));
