@@ -1,6 +1,6 @@
 //! An empty bank on a store of zeros.
 
-ghost use Rattle.std.specs.Prelude.{◌≡◌, ℕ, ◌<◌, ◌≤◌, ◌+◌, ◌-◌, ◌*◌, ◌%◌, ◌^◌, Some, length, replicate, slice_set};
+ghost use Rattle.std.specs.Prelude.{◌≡◌, ℕ, ◌<◌, ◌≤◌, ◌+◌, ◌-◌, ◌*◌, ◌%◌, ◌^◌, Some, [], length, replicate, slice_set};
 ghost use Rattle.kn_base.specs.Rows.{overwritten};
 ghost use Rattle.kn_base.specs.Memory.{Memory, zero_memory};
 ghost use Rattle.kernel_tables.specs.declared.entry.Entry.TheVariants.{Fixed};
@@ -10,6 +10,7 @@ ghost use Rattle.space_bank.specs.Fixed.{state_key, console_inode, empty_root, U
 ghost use Rattle.space_bank.specs.FreeList.{following};
 ghost use Rattle.space_bank.specs.Setup.{free_entries, with_service_root, with_service_roots, empty_bank};
 ghost use Rattle.space_bank.specs.Bank.{BankGood};
+ghost use Rattle.space_bank.specs.Shares.{Shares, nothing_outside};
 
 use kernel_tables::{
     Entry, Inode, InodeKind, Row, first_bank_page, set_free_node, set_free_page, set_inode_entry,
@@ -168,6 +169,7 @@ pub fn setup<T: Store>(store: &mut T, pages: u32, quantum: u32)
     requires zeros { T.memory store.old ≡ zero_memory (first_page pages + pages) (node_count pages) }
     ensures made { kernel_of (T.memory store.new) ≡ empty_bank pages quantum }
     ensures good { BankGood (kernel_of (T.memory store.new)) }
+    ensures shares { Shares (kernel_of (T.memory store.new)) nothing_outside [] }
     ensures unused { let new = kernel_of (T.memory store.new) in UnusedGood new.page_zero new.other_words }
     ensures nodes { FreshNodes (kernel_of (T.memory store.new)).keys }
     ensures files { let new = kernel_of (T.memory store.new) in FreshFiles new.inodes new.descriptions }

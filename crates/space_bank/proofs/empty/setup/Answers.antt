@@ -1,10 +1,11 @@
-use Rattle.std.proofs.Common.{ap, sym, subst, ◌∙◌}
+use Rattle.std.proofs.Common.{[], ap, sym, subst, ◌∙◌}
 use Rattle.kernel_tables.specs.Kernel.{Kernel, kernel_of}
 use Rattle.kernel_tables.proofs.ZeroTables.{kernel_of-zeros}
 use Rattle.space_bank.specs.Bank.{BankGood}
 use Rattle.space_bank.specs.Fixed.{UnusedGood, FreshNodes, FreshFiles}
+use Rattle.space_bank.specs.Shares.{Shares, nothing_outside}
 use Rattle.space_bank.proofs.FreshLaws.{unused_good-empty, fresh_nodes-empty, fresh_files-empty}
-use Rattle.space_bank.proofs.EmptyBank.{bank_good-empty}
+use Rattle.space_bank.proofs.EmptyBank.{bank_good-empty, shares-empty}
 use Rattle.space_bank.proofs.empty.setup.Goals as goal
 
 pub fill-requires-clause-zeros : goal.fill-requires-clause-zeros
@@ -29,3 +30,7 @@ pub returns-clause-files : goal.returns-clause-files
 returns-clause-files g c =
     subst (λ (k : Kernel). FreshFiles k.inodes k.descriptions) (sym c.fill.ensures.made)
     (fresh_files-empty c.args.pages c.args.quantum)
+
+pub returns-clause-shares : goal.returns-clause-shares
+returns-clause-shares g c =
+    subst (λ (k : Kernel). Shares k nothing_outside []) (sym c.fill.ensures.made) (shares-empty c.args.pages c.args.quantum)
