@@ -21,9 +21,10 @@ use Rattle.kernel_tables.specs.declared.row.Row.TheVariants.{Used}
 use Rattle.space_bank.specs.Fixed.{console_inode, empty_root}
 use Rattle.space_bank.specs.FreeList.{entry_at, is_free, is_free_at, taken_one, shares, following, Linked, taken_count}
 use Rattle.space_bank.specs.Bank.{BankGood, EntriesGood, PagesGood, NodesGood, memory_count, memory_taken_one}
+use Rattle.space_bank.specs.Shares.{Shares, NoneNamed, nothing_outside, key_names_page, key_names_node, page_places, node_places, page_in_hand, node_in_hand}
 use Rattle.space_bank.specs.Setup.{free_entries, empty_entries, with_service_roots, empty_bank}
 use Rattle.space_bank.proofs.SetupLaws.{linked-free_list}
-use Rattle.space_bank.proofs.FreshLaws.{length-with_service_roots, key-above}
+use Rattle.space_bank.proofs.FreshLaws.{length-with_service_roots, key-above, unnamed-fresh}
 use Rattle.space_bank.proofs.BankLaws.{first_page-some}
 
 length-free_entries : (O : Type 0) (base count start n : ℕ) → length (free_entries {O = O} base count start n) ≡ n
@@ -83,7 +84,7 @@ empty-behind O base count fixed n few past inside =
     ∙ get_or-replicate (rows - count) (n - fixed - (count - fixed)) (Free 0) Unspelled place
 
 -- an entry of an empty bank is fixed, or free, or isn't there
-pub empty_cases : {O : Type 0} (P : Entry O → Type 0) (base count fixed : ℕ) → fixed ≤ count → P Fixed → ((next : ℕ) → P (Free next)) → P Unspelled → (n : ℕ) → P (entry_at (empty_entries base count fixed) n)
+empty_cases : {O : Type 0} (P : Entry O → Type 0) (base count fixed : ℕ) → fixed ≤ count → P Fixed → ((next : ℕ) → P (Free next)) → P Unspelled → (n : ℕ) → P (entry_at (empty_entries base count fixed) n)
 empty_cases {O} P base count fixed few is_fixed free absent n =
     ⊎_elim (λ (low : n < fixed). subst P (sym (empty-fixed O base count fixed n low)) is_fixed)
     (λ (past : fixed ≤ n).
@@ -213,6 +214,31 @@ bank_good-empty size quantum least most multiple some few = record {
   };
   pages = pages_good-empty size least;
   nodes = nodes_good-empty (node_count size) (omega arith);
+}
+
+-- no object of an empty bank is counted, or named
+pub shares-empty : (size quantum : ℕ) → Shares (empty_bank size quantum) nothing_outside []
+unfolding empty_bank zero_kernel page_places node_places page_in_hand node_in_hand
+shares-empty size quantum = record {
+  of_pages = record {
+    agree =
+        λ n low high.
+        empty_cases (λ e. shares e ≡ 0) (first_page size) size 0 (omega arith) refl (λ next. refl) refl n
+        ∙ sym (ap (λ places. places + 0 + 0) (unnamed-fresh (key_names_page (first_page size + n)) refl refl (λ service. refl) (node_count size) (omega arith)));
+  };
+  of_nodes = record {
+    agree =
+        λ n low high.
+        empty_cases (λ e. shares e ≡ 0) 0 (node_count size) 15 (omega arith) refl (λ next. refl) refl n
+        ∙ sym (ap (λ places. places + 0 + 0) (unnamed-fresh (key_names_node (0 + n)) refl refl (λ service. refl) (node_count size) (omega arith)));
+  };
+}
+
+pub none_named-empty : (size quantum : ℕ) → NoneNamed (empty_bank size quantum).keys
+unfolding empty_bank zero_kernel page_places node_places
+none_named-empty size quantum = record {
+  no_page = λ id. unnamed-fresh (key_names_page id) refl refl (λ service. refl) (node_count size) (omega arith);
+  no_node = λ id. unnamed-fresh (key_names_node id) refl refl (λ service. refl) (node_count size) (omega arith);
 }
 
 -- two parts written one behind the other over equal elements

@@ -1,7 +1,10 @@
 -- What the fixed pages and nodes of an empty bank hold.
-use Rattle.std.proofs.Common.{◌≡◌, ◌≢◌, ℕ, zero, suc, ◌+◌, ◌*◌, ◌<◌, ◌≤◌, Option, Some, None, List, length, set, get_or, replicate, refl, ap, sym, ◌∙◌, ⊎_elim, arith}
+use Rattle.std.proofs.Common.{◌≡◌, ◌≢◌, ℕ, zero, suc, ◌+◌, ◌*◌, ◌<◌, ◌≤◌, Bool, false, cond, Option, Some, None, List, length, set, get_or, replicate, refl, ap, sym, ◌∙◌, ⊎_elim, arith}
 use Rattle.std.proofs.lemmas.Bool.{cases_eq}
 use Rattle.std.proofs.lemmas.List.{length-replicate, length-set, get_or-replicate, get_or-set_same, get_or-set_other}
+use Rattle.std.proofs.lemmas.List.Folds.{sum_by-replicate}
+use Rattle.std.proofs.lemmas.List.Sums.{sum_by-set}
+use Rattle.std.specs.List.{sum_by, count_by}
 use Rattle.kn_base.specs.declared.key.Key.{Key}
 use Rattle.kn_base.specs.declared.key.Key.TheVariants.{Null, Service}
 use Rattle.kernel_tables.specs.declared.row.Row.{Row}
@@ -10,6 +13,7 @@ use Rattle.kernel_tables.specs.declared.inode.Inode.{Inode}
 use Rattle.kernel_tables.specs.declared.description.Description.{Description}
 use Rattle.kernel_tables.specs.Kernel.{zero_kernel, node_count}
 use Rattle.space_bank.specs.Fixed.{state_key, IsServiceRoot, FreshNodes, UnusedGood, FreshFiles, console_inode, empty_root}
+use Rattle.space_bank.specs.Shares.{spelled_and}
 use Rattle.space_bank.specs.Setup.{with_service_root, with_service_roots, empty_bank}
 
 -- lists that are alike at a place, and are written alike
@@ -150,3 +154,27 @@ fresh_files-empty size quantum =
       free_inodes = inodes.2;
       free_descriptions = free_rows {X = Description} 2048;
     }
+
+-- keys that count for nothing, also with the roots of services among them
+sum-roots : (f : Option Key → ℕ) → f (Some (state_key 0 0)) ≡ 0 → ((service : ℕ) → f (Some (Service service)) ≡ 0) → (keys : List (Option Key)) (n : ℕ) → 16 * n + 16 ≤ length keys → sum_by f keys ≡ 0 → sum_by f (with_service_roots keys n) ≡ 0
+unfolding with_service_roots
+sum-roots f state service keys zero fits none = none
+sum-roots f state service keys (suc n) fits none =
+    let before = with_service_roots keys n in
+    let own : Option Key = Some (Service (n + 1)) in
+    let sizes : length before ≡ length keys = length-with_service_roots keys n in
+    let longer : length (set before (16 * (n + 1)) own) ≡ length before = length-set before (16 * (n + 1)) own in
+    let so_far = sum-roots f state service keys n (omega arith) none in
+    let first = sum_by-set f before (16 * (n + 1)) own None (omega arith) in
+    let second = sum_by-set f (set before (16 * (n + 1)) own) (16 * (n + 1) + 6) (Some (state_key 0 0)) None (omega arith) in
+    let owned = service (n + 1) in
+    omega arith
+
+pub unnamed-fresh : (test : Key → Bool) → test Null ≡ false → test (state_key 0 0) ≡ false → ((service : ℕ) → test (Service service) ≡ false) → (nodes : ℕ) → 7 ≤ nodes → count_by (spelled_and test) (with_service_roots (replicate (16 * nodes) (Some Null)) 6) ≡ 0
+unnamed-fresh test null state service nodes enough =
+    let f : Option Key → ℕ = λ key. cond (spelled_and test key) 1 0 in
+    let sizes : length {A = Option Key} (replicate (16 * nodes) (Some Null)) ≡ 16 * nodes = length-replicate (16 * nodes) (Some Null) in
+    let nulls : sum_by f (replicate (16 * nodes) (Some Null)) ≡ 16 * nodes * 0 =
+    sum_by-replicate f (16 * nodes) (Some Null) ∙ ap (λ b. 16 * nodes * cond b 1 0) null
+    in
+    sum-roots f (ap (λ b. cond b 1 0) state) (λ number. ap (λ b. cond b 1 0) (service number)) (replicate (16 * nodes) (Some Null)) 6 (omega arith) (omega arith)

@@ -6,4 +6,3 @@ pub mod SetupLaws
 pub mod FixedLaws
 pub mod FreshLaws
 pub mod EmptyBank
-pub mod EmptyShares

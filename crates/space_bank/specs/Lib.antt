@@ -2,5 +2,5 @@
 pub mod FreeList
 pub mod Bank
 pub mod Fixed
-pub mod Setup
 pub mod Shares
+pub mod Setup

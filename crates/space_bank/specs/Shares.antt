@@ -89,6 +89,7 @@ pub record Outside : Type 0 where
   pub pages : ℕ → ℕ
   pub nodes : ℕ → ℕ
 
+-- nothing else names a page or a node
 abbrev pub nothing_outside : Outside
 nothing_outside = record { pages = λ id. 0; nodes = λ id. 0 }
 

@@ -169,11 +169,11 @@ pub fn setup<T: Store>(store: &mut T, pages: u32, quantum: u32)
     requires zeros { T.memory store.old ≡ zero_memory (first_page pages + pages) (node_count pages) }
     ensures made { kernel_of (T.memory store.new) ≡ empty_bank pages quantum }
     ensures good { BankGood (kernel_of (T.memory store.new)) }
+    ensures shares { Shares (kernel_of (T.memory store.new)) nothing_outside [] }
     ensures unused { let new = kernel_of (T.memory store.new) in UnusedGood new.page_zero new.other_words }
     ensures nodes { FreshNodes (kernel_of (T.memory store.new)).keys }
     ensures files { let new = kernel_of (T.memory store.new) in FreshFiles new.inodes new.descriptions }
     ensures unnamed { NoneNamed (kernel_of (T.memory store.new)).keys }
-    ensures shares { Shares (kernel_of (T.memory store.new)) nothing_outside [] }
     ensures keeps { T.keeps store.old store.new }
 {
     fill(store, pages, quantum);

@@ -3,10 +3,9 @@ use Rattle.kernel_tables.specs.Kernel.{Kernel, kernel_of}
 use Rattle.kernel_tables.proofs.ZeroTables.{kernel_of-zeros}
 use Rattle.space_bank.specs.Bank.{BankGood}
 use Rattle.space_bank.specs.Fixed.{UnusedGood, FreshNodes, FreshFiles}
-use Rattle.space_bank.proofs.FreshLaws.{unused_good-empty, fresh_nodes-empty, fresh_files-empty}
-use Rattle.space_bank.proofs.EmptyBank.{bank_good-empty}
 use Rattle.space_bank.specs.Shares.{NoneNamed, Shares, nothing_outside}
-use Rattle.space_bank.proofs.EmptyShares.{none_named-empty, shares-empty}
+use Rattle.space_bank.proofs.FreshLaws.{unused_good-empty, fresh_nodes-empty, fresh_files-empty}
+use Rattle.space_bank.proofs.EmptyBank.{bank_good-empty, shares-empty, none_named-empty}
 use Rattle.space_bank.proofs.empty.setup.Goals as goal
 
 pub fill-requires-clause-zeros : goal.fill-requires-clause-zeros
