@@ -17,11 +17,8 @@ pub fn inode_entry<T: Store>(store: &T, number: u32) -> Row<Inode>
     ensures { result ≡ inode_at (kernel_of (T.memory store.now)) number }
 {
     let mut bytes = [0; 32];
-    store.read_page(
-        PageId(2 + number / 128),
-        (32 * (number % 128)) as u16,
-        &mut bytes,
-    );
+    let page = PageId(2 + number / 128);
+    store.read_page(page, (32 * (number % 128)) as u16, &mut bytes);
     inode_entry_in(bytes)
 }
 
@@ -33,11 +30,9 @@ pub fn set_inode_entry<T: Store>(store: &mut T, number: u32, entry: Row<Inode>)
     ensures written { kernel_of (T.memory store.new) ≡ record (kernel_of (T.memory store.old)) { inodes = slice_set (kernel_of (T.memory store.old)).inodes number entry } }
     ensures keeps { T.keeps store.old store.new }
 {
-    store.write_page(
-        PageId(2 + number / 128),
-        (32 * (number % 128)) as u16,
-        &inode_bytes(entry),
-    );
+    let bytes = inode_bytes(entry);
+    let page = PageId(2 + number / 128);
+    store.write_page(page, (32 * (number % 128)) as u16, &bytes);
 }
 
 /// The entry of an open description. `number` is below 2,048.
@@ -48,11 +43,8 @@ pub fn description_entry<T: Store>(store: &T, number: u16) -> Row<Description>
     ensures { result ≡ description_at (kernel_of (T.memory store.now)) number }
 {
     let mut bytes = [0; 16];
-    store.read_page(
-        PageId(10 + number as u32 / 256),
-        16 * (number % 256),
-        &mut bytes,
-    );
+    let page = PageId(10 + number as u32 / 256);
+    store.read_page(page, 16 * (number % 256), &mut bytes);
     description_entry_in(bytes)
 }
 
@@ -64,9 +56,7 @@ pub fn set_description_entry<T: Store>(store: &mut T, number: u16, entry: Row<De
     ensures written { kernel_of (T.memory store.new) ≡ record (kernel_of (T.memory store.old)) { descriptions = slice_set (kernel_of (T.memory store.old)).descriptions number entry } }
     ensures keeps { T.keeps store.old store.new }
 {
-    store.write_page(
-        PageId(10 + number as u32 / 256),
-        16 * (number % 256),
-        &description_bytes(entry),
-    );
+    let bytes = description_bytes(entry);
+    let page = PageId(10 + number as u32 / 256);
+    store.write_page(page, 16 * (number % 256), &bytes);
 }

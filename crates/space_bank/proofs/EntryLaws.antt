@@ -107,7 +107,7 @@ entries_good-given entries base count first taken n below some was_taken good =
           (λ other. good.unused m past (omega (arith, length-set entries n (Free first))));
     }
 
-memory_count-set : (entries : List (Entry PageOwner)) (n : ℕ) (entry : Entry PageOwner) → n < length entries → memory_count (set entries n entry) + memory_taken_one (entry_at entries n) ≡ memory_count entries + memory_taken_one entry
+pub memory_count-set : (entries : List (Entry PageOwner)) (n : ℕ) (entry : Entry PageOwner) → n < length entries → memory_count (set entries n entry) + memory_taken_one (entry_at entries n) ≡ memory_count entries + memory_taken_one entry
 unfolding memory_count
 memory_count-set entries n entry inside = sum_by-set memory_taken_one entries n entry Unspelled inside
 

@@ -6,3 +6,4 @@ pub mod SetupLaws
 pub mod FixedLaws
 pub mod FreshLaws
 pub mod EmptyBank
+pub mod ChangeLaws

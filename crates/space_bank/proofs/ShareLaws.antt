@@ -39,7 +39,7 @@ pub fixed_untaken : {O : Type 0} (entry : Entry O) → entry ≡ Fixed → IsTak
 fixed_untaken entry e once = let one = shared_once entry once in let none = ap shares e in absurd (omega arith)
 
 -- one entry is written, and its object is named more often or less
-agree-set : {O : Type 0} (entries : List (Entry O)) (base start count n : ℕ) (entry : Entry O) (old new : ℕ → ℕ) → entry_at entries n ≢ Unspelled → shares entry ≡ new (base + n) → ((m : ℕ) → m ≢ base + n → new m ≡ old m) → SharesAgree entries base start count old → SharesAgree (set entries n entry) base start count new
+pub agree-set : {O : Type 0} (entries : List (Entry O)) (base start count n : ℕ) (entry : Entry O) (old new : ℕ → ℕ) → entry_at entries n ≢ Unspelled → shares entry ≡ new (base + n) → ((m : ℕ) → m ≢ base + n → new m ≡ old m) → SharesAgree entries base start count old → SharesAgree (set entries n entry) base start count new
 agree-set entries base start count n entry old new spelled here there agreed = record {
   agree =
       λ m low high.
@@ -49,7 +49,7 @@ agree-set entries base start count n entry old new spelled here there agreed = r
 }
 
 -- no object is named more often or less
-agree-same : {O : Type 0} (entries : List (Entry O)) (base start count : ℕ) (old new : ℕ → ℕ) → ((m : ℕ) → new m ≡ old m) → SharesAgree entries base start count old → SharesAgree entries base start count new
+pub agree-same : {O : Type 0} (entries : List (Entry O)) (base start count : ℕ) (old new : ℕ → ℕ) → ((m : ℕ) → new m ≡ old m) → SharesAgree entries base start count old → SharesAgree entries base start count new
 agree-same entries base start count old new same agreed = record { agree = λ m low high. agreed.agree m low high ∙ sym (same (base + m)) }
 
 -- a number that is one is not another
@@ -57,7 +57,7 @@ other_number : (a id other : ℕ) → (a == id) ≡ true → other ≢ id → (a
 other_number a id other h apart = let same = eqb-true a id h in ne_eqb a other (λ e. apart (omega arith))
 
 -- a key names one page alone, or one node, and not both
-one_page : (id other : ℕ) (key : Key) → key_names_page id key ≡ true → other ≢ id → key_names_page other key ≡ false
+pub one_page : (id other : ℕ) (key : Key) → key_names_page id key ≡ true → other ≢ id → key_names_page other key ≡ false
 one_page id other Null h apart = refl
 one_page id other (Number body) h apart = refl
 one_page id other (Page page writable) h apart = other_number page.0 id other h apart
@@ -69,7 +69,7 @@ one_page id other (Domain root) h apart = refl
 one_page id other (Meter slot) h apart = refl
 one_page id other (Service code) h apart = refl
 
-one_node : (id other : ℕ) (key : Key) → key_names_node id key ≡ true → other ≢ id → key_names_node other key ≡ false
+pub one_node : (id other : ℕ) (key : Key) → key_names_node id key ≡ true → other ≢ id → key_names_node other key ≡ false
 one_node id other Null h apart = refl
 one_node id other (Number body) h apart = refl
 one_node id other (Page page writable) h apart = refl
@@ -81,7 +81,7 @@ one_node id other (Domain root) h apart = other_number root.0 id other h apart
 one_node id other (Meter slot) h apart = refl
 one_node id other (Service code) h apart = refl
 
-page_no_node : (id other : ℕ) (key : Key) → key_names_page id key ≡ true → key_names_node other key ≡ false
+pub page_no_node : (id other : ℕ) (key : Key) → key_names_page id key ≡ true → key_names_node other key ≡ false
 page_no_node id other Null h = refl
 page_no_node id other (Number body) h = refl
 page_no_node id other (Page page writable) h = refl
@@ -93,7 +93,7 @@ page_no_node id other (Domain root) h = let no : false ≡ true = h in cc
 page_no_node id other (Meter slot) h = refl
 page_no_node id other (Service code) h = refl
 
-node_no_page : (id other : ℕ) (key : Key) → key_names_node id key ≡ true → key_names_page other key ≡ false
+pub node_no_page : (id other : ℕ) (key : Key) → key_names_node id key ≡ true → key_names_page other key ≡ false
 node_no_page id other Null h = refl
 node_no_page id other (Number body) h = refl
 node_no_page id other (Page page writable) h = let no : false ≡ true = h in cc
@@ -106,22 +106,22 @@ node_no_page id other (Meter slot) h = refl
 node_no_page id other (Service code) h = refl
 
 -- what a key in hand counts for
-in_hand-cons : (test : Key → Bool) (key : Key) (hand : List Key) (named : Bool) → test key ≡ named → count_by test (key ∷ hand) ≡ cond named 1 0 + count_by test hand
+pub in_hand-cons : (test : Key → Bool) (key : Key) (hand : List Key) (named : Bool) → test key ≡ named → count_by test (key ∷ hand) ≡ cond named 1 0 + count_by test hand
 in_hand-cons test key hand named e = sum_by-cons (λ k. cond (test k) 1 0) key hand ∙ ap (λ b. cond b 1 0 + count_by test hand) e
 
-page-named_in_hand : (keys : List (Option Key)) (outside : Outside) (hand : List Key) (id : ℕ) (key : Key) → key_names_page id key ≡ true → page_names keys outside (key ∷ hand) id ≡ page_names keys outside hand id + 1
+pub page-named_in_hand : (keys : List (Option Key)) (outside : Outside) (hand : List Key) (id : ℕ) (key : Key) → key_names_page id key ≡ true → page_names keys outside (key ∷ hand) id ≡ page_names keys outside hand id + 1
 unfolding page_in_hand
 page-named_in_hand keys outside hand id key h = let e = in_hand-cons (key_names_page id) key hand true h in omega arith
 
-page-other_in_hand : (keys : List (Option Key)) (outside : Outside) (hand : List Key) (id : ℕ) (key : Key) → key_names_page id key ≡ false → page_names keys outside (key ∷ hand) id ≡ page_names keys outside hand id
+pub page-other_in_hand : (keys : List (Option Key)) (outside : Outside) (hand : List Key) (id : ℕ) (key : Key) → key_names_page id key ≡ false → page_names keys outside (key ∷ hand) id ≡ page_names keys outside hand id
 unfolding page_in_hand
 page-other_in_hand keys outside hand id key h = let e = in_hand-cons (key_names_page id) key hand false h in omega arith
 
-node-named_in_hand : (keys : List (Option Key)) (outside : Outside) (hand : List Key) (id : ℕ) (key : Key) → key_names_node id key ≡ true → node_names keys outside (key ∷ hand) id ≡ node_names keys outside hand id + 1
+pub node-named_in_hand : (keys : List (Option Key)) (outside : Outside) (hand : List Key) (id : ℕ) (key : Key) → key_names_node id key ≡ true → node_names keys outside (key ∷ hand) id ≡ node_names keys outside hand id + 1
 unfolding node_in_hand
 node-named_in_hand keys outside hand id key h = let e = in_hand-cons (key_names_node id) key hand true h in omega arith
 
-node-other_in_hand : (keys : List (Option Key)) (outside : Outside) (hand : List Key) (id : ℕ) (key : Key) → key_names_node id key ≡ false → node_names keys outside (key ∷ hand) id ≡ node_names keys outside hand id
+pub node-other_in_hand : (keys : List (Option Key)) (outside : Outside) (hand : List Key) (id : ℕ) (key : Key) → key_names_node id key ≡ false → node_names keys outside (key ∷ hand) id ≡ node_names keys outside hand id
 unfolding node_in_hand
 node-other_in_hand keys outside hand id key h = let e = in_hand-cons (key_names_node id) key hand false h in omega arith
 

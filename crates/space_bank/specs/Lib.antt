@@ -3,4 +3,5 @@ pub mod FreeList
 pub mod Bank
 pub mod Fixed
 pub mod Shares
+pub mod Changes
 pub mod Setup

@@ -1,19 +1,25 @@
 //! A bank over a store in memory.
 
-ghost use Rattle.std.specs.Prelude.{◌≡◌, ℕ, ◌<◌, ◌≤◌, ◌+◌, ◌-◌, ◌*◌, ◌%◌, ◌↔◌, IfOk, IsTrue};
+ghost use Rattle.std.specs.Prelude.{◌≡◌, ℕ, ◌<◌, ◌≤◌, ◌+◌, ◌-◌, ◌*◌, ◌%◌, ◌↔◌, false, IfOk, IsTrue};
 ghost use Rattle.kn_base.specs.Memory.{Memory};
-ghost use Rattle.kernel_tables.specs.Kernel.{Kernel, kernel_of, Sized, IsSized, first_page, node_count};
+ghost use Rattle.kernel_tables.specs.Kernel.{Kernel, kernel_of, Sized, IsSized, IsBankPage, first_page, node_count};
 ghost use Rattle.obj_store.specs.Store.{ram_memory};
+ghost use Rattle.space_bank.specs.FreeList.{is_free};
 ghost use Rattle.space_bank.specs.Bank.{BankGood, IsTakenOnce};
+ghost use Rattle.space_bank.specs.Changes.{IsTaken};
 ghost use Rattle.space_bank.specs.Setup.{empty_bank};
 ghost use Rattle.space_bank.specs.Shares.{NoneNamed, page_places, node_places};
 
 use super::{
-    NodeOwner, PageOwner, Taken, give_node, give_page, machine_word, promise, promised, setup,
-    take_node, take_page, taken_of, unpromise,
+    NodeOwner, PageOwner, Taken, copy_page, give_node, give_page, lower_node, lower_page,
+    machine_word, node_count, page_count, promise, promised, raise_node, raise_page, setup,
+    take_node, take_page, taken_of, unpromise, write_key, write_page,
 };
-use kernel_tables::{Entry, bank_size, first_bank_page, node_entry, page_entry};
-use kn_base::{Counts, NodeId, PageId, Store};
+use kernel_tables::{
+    Entry, Inode, InodeKind, Row, bank_size, description_entry, first_bank_page, inode_entry,
+    key_at, node_entry, page_entry, read_bank_page,
+};
+use kn_base::{Counts, Key, NodeId, PageId, Store};
 use obj_store::{NoMemory, RamStore};
 use std::alloc::Global;
 use std::process::Abort;
@@ -215,6 +221,130 @@ fn the_words_of_an_empty_bank(rt: HostRuntime) -> Result<(), Fail> {
         assert_eq!(rt; machine_word(&store, at), word);
     }
     assert_eq!(rt; promised(&store), 0);
+    Ok(())
+}
+
+#[test]
+fn the_first_rows_of_an_empty_bank(rt: HostRuntime) -> Result<(), Fail> {
+    let store = bank_of(rt.alloc(), 64).ok().ok_or("no memory")?;
+    let console = Inode {
+        kind: InodeKind::Console,
+        length: 0,
+        entries: 0,
+        opens: 0,
+        root: 0,
+        parent: 0,
+        start: 0,
+    };
+    let root = Inode {
+        kind: InodeKind::Dir,
+        entries: 1,
+        parent: 1,
+        ..console
+    };
+    assert_eq!(rt; inode_entry(&store, 0), Row::Used(console));
+    assert_eq!(rt; inode_entry(&store, 1), Row::Used(root));
+    assert_eq!(rt; inode_entry(&store, 1023), Row::Free);
+    assert_eq!(rt; description_entry(&store, 2047), Row::Free);
+    Ok(())
+}
+
+// Whether an object is taken.
+fn is_taken<O: Copy>(entry: Entry<O>) -> bool
+    ensures taken { IsTrue result ↔ IsTaken entry }
+    ensures used { IsTrue result → is_free entry ≡ false }
+{
+    match entry {
+        Entry::Taken { .. } => true,
+        Entry::Free { .. } | Entry::Fixed | Entry::Unspelled => false,
+    }
+}
+
+// Counts a page that is named once twice, and once again.
+fn count_page_twice<T: Store>(rt: &impl Abort, store: &mut T, page: PageId)
+    requires good { BankGood (kernel_of (T.memory store.old)) }
+    requires page { IsBankPage (kernel_of (T.memory store.old)).size page.0 }
+{
+    let n = page.0 - first_bank_page(bank_size(store));
+    let entry = page_entry(store, n);
+    assert!(rt; is_taken(entry));
+    assert_eq!(rt; page_count(store, page), 1);
+    raise_page(store, page);
+    assert_eq!(rt; page_count(store, page), 2);
+    lower_page(store, page);
+    assert_eq!(rt; page_count(store, page), 1);
+}
+
+// Counts a node that is named once twice, and once again.
+fn count_node_twice<T: Store>(rt: &impl Abort, store: &mut T, node: NodeId)
+    requires good { BankGood (kernel_of (T.memory store.old)) }
+    requires node { node.0 < (kernel_of (T.memory store.old)).nodes }
+{
+    let entry = node_entry(store, node);
+    assert!(rt; is_taken(entry));
+    assert_eq!(rt; node_count(store, node), 1);
+    raise_node(store, node);
+    assert_eq!(rt; node_count(store, node), 2);
+    lower_node(store, node);
+    assert_eq!(rt; node_count(store, node), 1);
+}
+
+#[test]
+fn what_is_taken_is_counted_once_and_more(rt: HostRuntime) -> Result<(), Fail> {
+    let mut store = bank_of(rt.alloc(), 64).ok().ok_or("no memory")?;
+    let page = take_page(&mut store, PageOwner::File).ok_or("no page")?;
+    let node = take_node(&mut store, NodeOwner::FileTree).ok_or("no node")?;
+    count_node_twice(&rt, &mut store, node);
+    count_page_twice(&rt, &mut store, page);
+    Ok(())
+}
+
+// Writes three bytes into a page, copies it over another one, and reads them there.
+fn write_and_copy<T: Store>(rt: &impl Abort, store: &mut T, from: PageId, to: PageId)
+    requires good { BankGood (kernel_of (T.memory store.old)) }
+    requires from { IsBankPage (kernel_of (T.memory store.old)).size from.0 }
+    requires to { IsBankPage (kernel_of (T.memory store.old)).size to.0 }
+    requires two_pages { from.0 ≢ to.0 }
+{
+    let first = first_bank_page(bank_size(store));
+    let source = page_entry(store, from.0 - first);
+    assert!(rt; is_taken(source));
+    write_page(store, from, 4093, &[1, 2, 3]);
+    let target = page_entry(store, to.0 - first);
+    assert!(rt; is_taken(target));
+    copy_page(store, from, to);
+    let mut bytes = [9; 4];
+    read_bank_page(store, to, 4092, &mut bytes);
+    assert_eq!(rt; bytes, [0, 1, 2, 3]);
+}
+
+// Writes a key into a node, and reads it.
+fn write_and_read<T: Store>(rt: &impl Abort, store: &mut T, node: NodeId, key: Key)
+    requires good { BankGood (kernel_of (T.memory store.old)) }
+    requires node { node.0 < (kernel_of (T.memory store.old)).nodes }
+{
+    let entry = node_entry(store, node);
+    assert!(rt; is_taken(entry));
+    write_key(store, node, 15, key);
+    assert_eq!(rt; key_at(store, node, 15), Some(key));
+    assert_eq!(rt; key_at(store, node, 14), Some(Key::Null));
+}
+
+#[test]
+fn what_is_taken_holds_what_is_written(rt: HostRuntime) -> Result<(), Fail> {
+    let mut store = bank_of(rt.alloc(), 64).ok().ok_or("no memory")?;
+    let from = take_page(&mut store, PageOwner::Memory).ok_or("no page")?;
+    let to = take_page(&mut store, PageOwner::Memory).ok_or("no page")?;
+    assert!(rt; from.0 != to.0);
+    write_and_copy(&rt, &mut store, from, to);
+    Ok(())
+}
+
+#[test]
+fn a_taken_node_holds_a_key(rt: HostRuntime) -> Result<(), Fail> {
+    let mut store = bank_of(rt.alloc(), 64).ok().ok_or("no memory")?;
+    let node = take_node(&mut store, NodeOwner::Tree).ok_or("no node")?;
+    write_and_read(&rt, &mut store, node, Key::Meter { slot: 7 });
     Ok(())
 }
 
