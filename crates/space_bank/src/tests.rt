@@ -97,7 +97,7 @@ fn give_page_back<T: Store>(rt: &impl Abort, store: &mut T, page: PageId)
     give_page(store, page);
 }
 
-// Gives all 64 pages of a bank back, each seventh one of those that are left in turn.
+// Gives all 64 pages of a bank back, in steps of 37 round the bank.
 fn give_all_pages_back<T: Store>(rt: &impl Abort, store: &mut T)
     requires good { BankGood (kernel_of (T.memory store.old)) }
     requires unnamed { NoneNamed (kernel_of (T.memory store.old)).keys }
@@ -155,7 +155,7 @@ fn give_node_back<T: Store>(rt: &impl Abort, store: &mut T, node: NodeId)
     give_node(store, node);
 }
 
-// Gives all 1,537 nodes back that were taken, in an order of their own.
+// Gives all 1,537 nodes back that were taken, in steps of 1,000 round them.
 fn give_all_nodes_back<T: Store>(rt: &impl Abort, store: &mut T)
     requires good { BankGood (kernel_of (T.memory store.old)) }
     requires unnamed { NoneNamed (kernel_of (T.memory store.old)).keys }
