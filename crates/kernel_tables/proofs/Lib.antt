@@ -1,1 +1,4 @@
+pub mod Rows
 pub mod Places
+pub mod Sizes
+pub mod ZeroTables

@@ -1,6 +1,6 @@
 -- What a page that is written leaves of the tables.
-use Rattle.std.proofs.Common.{◌≡◌, ◌≢◌, ℕ, ◌+◌, ◌*◌, ◌/◌, ◌<◌, ◌≤◌, ◌==◌, if◌then◌else◌, Option, List, length, drop, set, get_or, refl, ap, sym, ◌∙◌, ⊎_elim, arith}
-use Rattle.std.proofs.lemmas.List.{drop-set-lt, drop-set-add, get_or-set_same, get_or-set_other, length-set}
+use Rattle.std.proofs.Common.{◌≡◌, ◌≢◌, ℕ, ◌+◌, ◌-◌, ◌*◌, ◌/◌, ◌<◌, ◌≤◌, ◌==◌, if◌then◌else◌, Option, List, [], length, drop, set, get_or, refl, ap, sym, ◌∙◌, ⊎_elim, arith}
+use Rattle.std.proofs.lemmas.List.{get_or-drop, drop-set-lt, drop-set-add, get_or-set_same, get_or-set_other, length-set}
 use Rattle.std.proofs.lemmas.Bool.{cases_eq, eq-eqb, ne_eqb}
 use Rattle.std.specs.Int.{from_le_bytes, w32}
 use Rattle.kn_base.specs.declared.key.Key.{Key}
@@ -8,10 +8,14 @@ use Rattle.kernel_tables.specs.declared.machine.Machine.{Machine}
 use Rattle.kernel_tables.specs.declared.entry.PageOwner.{PageOwner}
 use Rattle.kernel_tables.specs.declared.entry.NodeOwner.{NodeOwner}
 use Rattle.kernel_tables.specs.declared.entry.Entry.{Entry}
+use Rattle.kernel_tables.specs.declared.row.Row.{Row}
+use Rattle.kernel_tables.specs.declared.inode.Inode.{Inode}
+use Rattle.kernel_tables.specs.declared.description.Description.{Description}
 use Rattle.kn_base.specs.Rows.{overwritten, table_at}
 use Rattle.kn_base.specs.Memory.{Memory, page_at}
 use Rattle.kn_base.proofs.RowLaws.{tables_written, table_at-written, table_at-above, table_at-below, length-table_at}
 use Rattle.kernel_tables.specs.Entries.{page_entry_of, node_entry_of}
+use Rattle.kernel_tables.specs.Files.{inode_entry_of, description_entry_of}
 use Rattle.kernel_tables.specs.Kernel.{Kernel, machine_of, with_word, page_words, tables_of, first_page, node_entry_page, entry_pages, node_count}
 
 -- an element of a list of words in which one was written
@@ -42,8 +46,8 @@ machine_of-set words n word h =
     cc
 
 -- tables whose fields are equal
-same_tables : (size : ℕ) {pages pages' : ℕ} → pages ≡ pages' → (nodes : ℕ) {machine machine' : Machine} → machine ≡ machine' → {others others' : List ℕ} → others ≡ others' → {page_entries page_entries' : List (Entry PageOwner)} → page_entries ≡ page_entries' → {node_entries node_entries' : List (Entry NodeOwner)} → node_entries ≡ node_entries' → {bank bank' : List (List ℕ)} → bank ≡ bank' → (keys : List (Option Key)) → (let k : Kernel = record { size = size; pages = pages; nodes = nodes; machine = machine; other_words = others; page_entries = page_entries; node_entries = node_entries; bank = bank; keys = keys } in k) ≡ record { size = size; pages = pages'; nodes = nodes; machine = machine'; other_words = others'; page_entries = page_entries'; node_entries = node_entries'; bank = bank'; keys = keys }
-same_tables size p nodes m o pe ne b keys = cc
+pub same_tables : (size : ℕ) {pages pages' : ℕ} → pages ≡ pages' → {nodes nodes' : ℕ} → nodes ≡ nodes' → {page_zero page_zero' : List ℕ} → page_zero ≡ page_zero' → {machine machine' : Machine} → machine ≡ machine' → {others others' : List ℕ} → others ≡ others' → {inodes inodes' : List (Row Inode)} → inodes ≡ inodes' → {descriptions descriptions' : List (Row Description)} → descriptions ≡ descriptions' → {page_entries page_entries' : List (Entry PageOwner)} → page_entries ≡ page_entries' → {node_entries node_entries' : List (Entry NodeOwner)} → node_entries ≡ node_entries' → {bank bank' : List (List ℕ)} → bank ≡ bank' → {keys keys' : List (Option Key)} → keys ≡ keys' → (let k : Kernel = record { size = size; pages = pages; nodes = nodes; page_zero = page_zero; machine = machine; other_words = others; inodes = inodes; descriptions = descriptions; page_entries = page_entries; node_entries = node_entries; bank = bank; keys = keys } in k) ≡ record { size = size; pages = pages'; nodes = nodes'; page_zero = page_zero'; machine = machine'; other_words = others'; inodes = inodes'; descriptions = descriptions'; page_entries = page_entries'; node_entries = node_entries'; bank = bank'; keys = keys' }
+same_tables size p n z m o i d pe ne b k = cc
 
 -- a word of the machine page is written
 pub tables_of-word : (size : ℕ) (memory : Memory) (n word at : ℕ) (part : List ℕ) → first_page size ≤ length memory.pages → length (page_at memory 1) ≡ 4096 → n < 10 → 4 * n ≡ at → length part ≡ 4 → from_le_bytes w32 part ≡ word → tables_of size (record memory { pages = set memory.pages 1 (overwritten (page_at memory 1) at part) }) ≡ record (tables_of size memory) { machine = with_word (tables_of size memory).machine n word }
@@ -63,10 +67,41 @@ tables_of-word size memory n word at part inside whole low place four spelled =
     let others : drop 10 (table_at (from_le_bytes w32) 4 1024 1 1 (set memory.pages 1 new)) ≡ drop 10 words =
     ap (drop 10) written ∙ drop-set-lt 10 words n word low
     in
+    let page_zero = get_or-set_other memory.pages 1 0 new [] (omega arith) in
+    let inodes = table_at-below inode_entry_of 32 128 2 8 memory.pages 1 new (omega arith) in
+    let descriptions = table_at-below description_entry_of 16 256 10 8 memory.pages 1 new (omega arith) in
     let page_entries = table_at-below page_entry_of 8 512 18 (entry_pages size) memory.pages 1 new (omega arith) in
     let node_entries = table_at-below node_entry_of 8 512 (18 + entry_pages size) (entry_pages (node_count size)) memory.pages 1 new (omega arith) in
     let bank = drop-set-lt (18 + entry_pages size + entry_pages (node_count size)) memory.pages 1 new (omega arith) in
-    same_tables size sizes (length memory.keys / 16) machine others page_entries node_entries bank memory.keys
+    same_tables size sizes refl page_zero machine others inodes descriptions page_entries node_entries bank refl
+
+-- a page of the bank by its number
+pub get_or-bank : (first : ℕ) (pages : List (List ℕ)) (page : ℕ) → first ≤ page → get_or pages page [] ≡ get_or (drop first pages) (page - first) []
+get_or-bank first pages page low =
+    let place : first + (page - first) ≡ page = omega arith in
+    ap (λ k. get_or pages k []) (sym place) ∙ sym (get_or-drop first pages (page - first) [])
+
+drop-set_bank : (first : ℕ) (pages : List (List ℕ)) (page : ℕ) (bytes : List ℕ) → first ≤ page → drop first (set pages page bytes) ≡ set (drop first pages) (page - first) bytes
+drop-set_bank first pages page bytes low =
+    let place : first + (page - first) ≡ page = omega arith in
+    ap (λ k. drop first (set pages k bytes)) (sym place) ∙ drop-set-add first pages (page - first) bytes
+
+-- one whose bytes come of what it or another one held
+pub drop-overwritten : (first : ℕ) (pages : List (List ℕ)) (page at : ℕ) (part : List ℕ) → first ≤ page → drop first (set pages page (overwritten (get_or pages page []) at part)) ≡ set (drop first pages) (page - first) (overwritten (get_or (drop first pages) (page - first) []) at part)
+drop-overwritten first pages page at part low =
+    drop-set_bank first pages page (overwritten (get_or pages page []) at part) low
+    ∙ ap (λ bytes. set (drop first pages) (page - first) (overwritten bytes at part)) (get_or-bank first pages page low)
+
+pub drop-copied : (first : ℕ) (pages : List (List ℕ)) (from to : ℕ) → first ≤ from → first ≤ to → drop first (set pages to (get_or pages from [])) ≡ set (drop first pages) (to - first) (get_or (drop first pages) (from - first) [])
+drop-copied first pages from to from_low to_low =
+    drop-set_bank first pages to (get_or pages from []) to_low
+    ∙ ap (set (drop first pages) (to - first)) (get_or-bank first pages from from_low)
 
 -- for a function that writes a row or a page
 pub ruleset written = (tables_written, drop-set-lt, drop-set-add)
+
+-- for a function that writes bytes of a page of the bank
+pub ruleset bank_written = (tables_written, drop-set-lt, drop-overwritten, drop-copied)
+
+-- for a function that reads bytes of one
+pub ruleset bank_read = (get_or-bank)

@@ -1,12 +1,19 @@
 -- What a store of a machine holds.
-use Rattle.std.specs.Prelude.{◌≡◌, ℕ, ◌+◌, ◌-◌, ◌*◌, ◌/◌, ◌%◌, ◌≤◌, ◌==◌, if◌then◌else◌, Option, List, length, drop, slice_index}
+use Rattle.std.specs.Prelude.{◌≡◌, ℕ, ◌+◌, ◌-◌, ◌*◌, ◌/◌, ◌%◌, ◌<◌, ◌≤◌, ◌==◌, if◌then◌else◌, Option, Some, List, [], length, drop, replicate, slice_index, slice_index_or, slice_set}
 use Rattle.std.specs.Int.{from_le_bytes, w32}
 use Rattle.kn_base.specs.declared.key.Key.{Key}
+use Rattle.kn_base.specs.declared.key.Key.TheVariants.{Null}
 use Rattle.kn_base.specs.Rows.{table_at}
-use Rattle.kn_base.specs.Memory.{Memory}
+use Rattle.kn_base.specs.Memory.{Memory, page_at, zero_page}
+use Rattle.kernel_tables.specs.declared.row.Row.{Row}
+use Rattle.kernel_tables.specs.declared.row.Row.TheVariants.{Unspelled, Free as FreeRow}
+use Rattle.kernel_tables.specs.declared.inode.Inode.{Inode}
+use Rattle.kernel_tables.specs.declared.description.Description.{Description}
+use Rattle.kernel_tables.specs.Files.{inode_entry_of, description_entry_of}
 use Rattle.kernel_tables.specs.declared.entry.PageOwner.{PageOwner}
 use Rattle.kernel_tables.specs.declared.entry.NodeOwner.{NodeOwner}
 use Rattle.kernel_tables.specs.declared.entry.Entry.{Entry}
+use Rattle.kernel_tables.specs.declared.entry.Entry.TheVariants.{Free}
 use Rattle.kernel_tables.specs.declared.machine.Machine.{Machine}
 use Rattle.kernel_tables.specs.Entries.{page_entry_of, node_entry_of}
 
@@ -55,14 +62,19 @@ with_word machine n word = record {
   nodes_taken = if n == 9 then word else machine.nodes_taken;
 }
 
--- The typed tables of a store. `size` is the number of pages of the bank that the store's nodes are enough for. Entry n
--- of `page_entries` and page n of `bank` are page `first_page size + n` of the store.
+-- The typed tables of a store. `size` is the number of pages of the bank that the store's nodes are enough for. Page 0
+-- is `page_zero`, page 1 has the ten words of `machine` and 1,014 others, pages 2 to 9 have 1,024 inode entries and pages
+-- 10 to 17 have 2,048 entries of descriptions. Entry n of `page_entries` and page n of `bank` are page
+-- `first_page size + n` of the store.
 pub record Kernel : Type 0 where
   pub size : ℕ
   pub pages : ℕ
   pub nodes : ℕ
+  pub page_zero : List ℕ
   pub machine : Machine
   pub other_words : List ℕ
+  pub inodes : List (Row Inode)
+  pub descriptions : List (Row Description)
   pub page_entries : List (Entry PageOwner)
   pub node_entries : List (Entry NodeOwner)
   pub bank : List (List ℕ)
@@ -79,8 +91,11 @@ tables_of size memory =
       size = size;
       pages = length memory.pages;
       nodes = length memory.keys / 16;
+      page_zero = page_at memory 0;
       machine = machine_of (page_words memory.pages);
       other_words = drop 10 (page_words memory.pages);
+      inodes = table_at inode_entry_of 32 128 2 8 memory.pages;
+      descriptions = table_at description_entry_of 16 256 10 8 memory.pages;
       page_entries = table_at page_entry_of 8 512 18 (entry_pages size) memory.pages;
       node_entries = table_at node_entry_of 8 512 (node_entry_page size) (entry_pages (node_count size)) memory.pages;
       bank = drop (first_page size) memory.pages;
@@ -89,6 +104,23 @@ tables_of size memory =
 
 unfoldable pub kernel_of : Memory → Kernel
 kernel_of memory = tables_of ((length memory.keys / 16 - 1296) / 4) memory
+
+-- the tables of a store of zeros of the size for so many pages
+unfoldable pub zero_kernel : ℕ → Kernel
+zero_kernel size = record {
+  size = size;
+  pages = first_page size + size;
+  nodes = node_count size;
+  page_zero = zero_page;
+  machine = machine_of [];
+  other_words = replicate 1014 0;
+  inodes = replicate 1024 FreeRow;
+  descriptions = replicate 2048 FreeRow;
+  page_entries = replicate (512 * entry_pages size) (Free 0);
+  node_entries = replicate (512 * entry_pages (node_count size)) (Free 0);
+  bank = replicate size zero_page;
+  keys = replicate (16 * node_count size) (Some Null);
+}
 
 -- The sizes of a store for a bank of `size` pages, which are a multiple of 64 from 64 to 16,384.
 pub record IsSized (size pages nodes : ℕ) : Type 0 where
@@ -100,3 +132,34 @@ pub record IsSized (size pages nodes : ℕ) : Type 0 where
 
 abbrev pub Sized : Kernel → Type 0
 Sized kernel = IsSized kernel.size kernel.pages kernel.nodes
+
+-- how many inodes and open descriptions there are
+abbrev pub inode_count : ℕ
+inode_count = 1024
+
+abbrev pub description_count : ℕ
+description_count = 2048
+
+-- the entry of an inode and of a description
+abbrev pub inode_at : Kernel → ℕ → Row Inode
+inode_at kernel number = slice_index_or kernel.inodes number Unspelled
+
+abbrev pub description_at : Kernel → ℕ → Row Description
+description_at kernel number = slice_index_or kernel.descriptions number Unspelled
+
+-- The page of this number is one of a bank of so many pages.
+pub record IsBankPage (size page : ℕ) : Type 0 where
+  pub low : first_page size ≤ page
+  pub high : page < first_page size + size
+
+-- the bytes of a page of the bank by its number
+abbrev pub bank_page : Kernel → ℕ → List ℕ
+bank_page kernel page = slice_index_or kernel.bank (page - first_page kernel.size) []
+
+-- the bank in which the page of this number has other bytes
+abbrev pub with_bank_page : Kernel → ℕ → List ℕ → List (List ℕ)
+with_bank_page kernel page bytes = slice_set kernel.bank (page - first_page kernel.size) bytes
+
+-- the bytes of a page that a key of memory may name: page 0, or a page of the bank
+abbrev pub memory_page : Kernel → ℕ → List ℕ
+memory_page kernel page = if page == 0 then kernel.page_zero else bank_page kernel page

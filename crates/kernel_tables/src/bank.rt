@@ -1,9 +1,10 @@
 //! The entries of pages and nodes.
 
-ghost use Rattle.std.specs.Prelude.{◌≡◌, ◌≢◌, ℕ, ◌<◌, ◌≤◌, ◌+◌, ◌-◌, ◌*◌, Some, length, slice_index_or, slice_set};
+ghost use Rattle.std.specs.Prelude.{◌≡◌, ◌≢◌, ◌⊎◌, ℕ, ◌<◌, ◌≤◌, ◌+◌, ◌-◌, ◌*◌, Some, length, slice_index_or, slice_set};
+ghost use Rattle.kn_base.specs.Rows.{part_at, overwritten};
 ghost use Rattle.kn_base.specs.Memory.{Memory, zero_page};
 ghost use Rattle.kernel_tables.specs.declared.entry.Entry.TheVariants.{Fixed, Unspelled};
-ghost use Rattle.kernel_tables.specs.Kernel.{Kernel, kernel_of, Sized, IsSized, first_page, node_entry_page};
+ghost use Rattle.kernel_tables.specs.Kernel.{Kernel, kernel_of, Sized, IsSized, first_page, node_entry_page, IsBankPage, bank_page, with_bank_page, memory_page};
 
 use super::entry::{
     Entry, NodeOwner, PageOwner, node_entry_bytes, node_entry_in, page_entry_bytes, page_entry_in,
@@ -100,6 +101,53 @@ pub fn clear_bank_page<T: Store>(store: &mut T, n: u32)
 {
     let first = first_bank_page(bank_size(store));
     store.clear_page(PageId(first + n));
+}
+
+/// Reads bytes of a page of the bank from `at` on, as many as `into` has.
+#[tactic(auto, using(crate::proofs::Places::bank_read), unfolding(crate::specs::Kernel::kernel_of, crate::specs::Kernel::tables_of))]
+pub fn read_bank_page<T: Store>(store: &T, page: PageId, at: u16, into: &mut [u8])
+    requires sized { Sized (kernel_of (T.memory store.now)) }
+    requires page { IsBankPage (kernel_of (T.memory store.now)).size page.0 }
+    requires within { at + length into.old ≤ 4096 }
+    ensures { into.new ≡ part_at (bank_page (kernel_of (T.memory store.now)) page.0) at (length into.old) }
+{
+    store.read_page(page, at, into);
+}
+
+/// Reads bytes of page 0 or of a page of the bank from `at` on, as many as `into` has.
+#[tactic(auto, using(crate::proofs::Places::bank_read), unfolding(crate::specs::Kernel::kernel_of, crate::specs::Kernel::tables_of))]
+pub fn read_memory_page<T: Store>(store: &T, page: PageId, at: u16, into: &mut [u8])
+    requires sized { Sized (kernel_of (T.memory store.now)) }
+    requires page { (page.0 ≡ 0) ⊎ IsBankPage (kernel_of (T.memory store.now)).size page.0 }
+    requires within { at + length into.old ≤ 4096 }
+    ensures { into.new ≡ part_at (memory_page (kernel_of (T.memory store.now)) page.0) at (length into.old) }
+{
+    store.read_page(page, at, into);
+}
+
+/// Writes bytes into a page of the bank from `at` on.
+#[tactic(auto, using(crate::proofs::Places::bank_written), unfolding(crate::specs::Kernel::kernel_of, crate::specs::Kernel::tables_of, crate::specs::Kernel::page_words, crate::specs::Kernel::first_page, crate::specs::Kernel::node_entry_page))]
+pub fn write_bank_page<T: Store>(store: &mut T, page: PageId, at: u16, from: &[u8])
+    requires sized { Sized (kernel_of (T.memory store.old)) }
+    requires page { IsBankPage (kernel_of (T.memory store.old)).size page.0 }
+    requires within { at + length from.now ≤ 4096 }
+    ensures written { let old = kernel_of (T.memory store.old) in kernel_of (T.memory store.new) ≡ record old { bank = with_bank_page old page.0 (overwritten (bank_page old page.0) at from.now) } }
+    ensures keeps { T.keeps store.old store.new }
+{
+    store.write_page(page, at, from);
+}
+
+/// Copies a page of the bank over another one.
+#[tactic(auto, using(crate::proofs::Places::bank_written), unfolding(crate::specs::Kernel::kernel_of, crate::specs::Kernel::tables_of, crate::specs::Kernel::page_words, crate::specs::Kernel::first_page, crate::specs::Kernel::node_entry_page))]
+pub fn copy_bank_page<T: Store>(store: &mut T, from: PageId, to: PageId)
+    requires sized { Sized (kernel_of (T.memory store.old)) }
+    requires from { IsBankPage (kernel_of (T.memory store.old)).size from.0 }
+    requires to { IsBankPage (kernel_of (T.memory store.old)).size to.0 }
+    requires two_pages { from.0 ≢ to.0 }
+    ensures written { let old = kernel_of (T.memory store.old) in kernel_of (T.memory store.new) ≡ record old { bank = with_bank_page old to.0 (bank_page old from.0) } }
+    ensures keeps { T.keeps store.old store.new }
+{
+    store.copy_page(from, to);
 }
 
 /// The key at a place of a node, or None where the bytes there spell no key. `place` is 0 to 15.

@@ -1,5 +1,5 @@
 -- What taking and giving an object leave of the entries, the pages and the nodes of the bank.
-use Rattle.std.proofs.Common.{◌≡◌, ◌≢◌, ℕ, ◌+◌, ◌-◌, ◌*◌, ◌^◌, ◌<◌, ◌≤◌, ◌&&◌, Bool, true, false, nat_lt, Option, Some, None, List, [], length, set, get_or, replicate, refl, ap, sym, subst, ◌∙◌, ⊎_elim, arith}
+use Rattle.std.proofs.Common.{◌≡◌, ◌≢◌, ℕ, ◌+◌, ◌-◌, ◌*◌, ◌^◌, ◌<◌, ◌≤◌, ◌&&◌, true, false, nat_lt, Option, Some, None, List, [], length, set, get_or, replicate, refl, ap, sym, subst, ◌∙◌, ⊎_elim, arith}
 use Rattle.std.proofs.Math.Bool.{and-false}
 use Rattle.std.proofs.lemmas.List.{get_or-set_same, get_or-set_other, length-set, length-replicate, get_or-replicate}
 use Rattle.std.proofs.lemmas.List.Sums.{sum_by-set}
@@ -107,7 +107,7 @@ entries_good-given entries base count first taken n below some was_taken good =
           (λ other. good.unused m past (omega (arith, length-set entries n (Free first))));
     }
 
-memory_count-set : (entries : List (Entry PageOwner)) (n : ℕ) (entry : Entry PageOwner) → n < length entries → memory_count (set entries n entry) + memory_taken_one (entry_at entries n) ≡ memory_count entries + memory_taken_one entry
+pub memory_count-set : (entries : List (Entry PageOwner)) (n : ℕ) (entry : Entry PageOwner) → n < length entries → memory_count (set entries n entry) + memory_taken_one (entry_at entries n) ≡ memory_count entries + memory_taken_one entry
 unfolding memory_count
 memory_count-set entries n entry inside = sum_by-set memory_taken_one entries n entry Unspelled inside
 

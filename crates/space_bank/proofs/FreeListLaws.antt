@@ -37,7 +37,7 @@ free_spelled : {O : Type 0} (entry : Entry O) (next : ℕ) → entry ≡ Free ne
 free_spelled entry next e h = let no : Free next ≡ Unspelled = sym e ∙ h in cc
 
 -- an entry outside of a list changes
-threads-set : {O : Type 0} (entries : List (Entry O)) (base : ℕ) (places : List ℕ) (n : ℕ) (entry : Entry O) → elem n places ≡ false → Threads entries base places → Threads (set entries n entry) base places
+pub threads-set : {O : Type 0} (entries : List (Entry O)) (base : ℕ) (places : List ℕ) (n : ℕ) (entry : Entry O) → elem n places ≡ false → Threads entries base places → Threads (set entries n entry) base places
 unfolding Threads elem first_of
 threads-set entries base [] n entry out t = tt
 threads-set entries base (place ∷ places) n entry out t =

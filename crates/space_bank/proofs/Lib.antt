@@ -3,3 +3,7 @@ pub mod EntryLaws
 pub mod BankLaws
 pub mod ShareLaws
 pub mod SetupLaws
+pub mod FixedLaws
+pub mod FreshLaws
+pub mod EmptyBank
+pub mod ChangeLaws

@@ -1,12 +1,15 @@
 -- Objects that are free in their order form a free list.
-use Rattle.std.proofs.Common.{◌≡◌, ◌≢◌, ℕ, zero, suc, ◌+◌, ◌-◌, ◌<◌, ◌≤◌, ◌==◌, ◌&&◌, ◌||◌, if◌then◌else◌, Bool, true, false, nat_lt, List, [], ◌∷◌, length, set, refl, ap, sym, subst, ◌∙◌, ⊎_elim, arith}
+use Rattle.std.proofs.Common.{◌≡◌, ◌≢◌, ℕ, zero, suc, ◌+◌, ◌-◌, ◌<◌, ◌≤◌, ◌&&◌, ◌||◌, if◌then◌else◌, true, false, nat_lt, List, map, length, set, refl, ap, sym, ◌∙◌, ⊎_elim, arith}
 use Rattle.std.proofs.Math.Bool.{and-false}
 use Rattle.std.proofs.lemmas.Bool.{cases_eq, cases_lt, eq-eqb, ne_eqb, lt-ltb, le-ltb}
 use Rattle.std.specs.List.{range_with_len}
+use Rattle.std.proofs.lemmas.List.FromFn.{length-map-range_with_len, map-range_with_len_more}
+use Rattle.kn_base.specs.Rows.{overwritten}
+use Rattle.kn_base.proofs.RowLaws.{overwritten-none, overwritten-more}
 use Rattle.kernel_tables.specs.declared.entry.Entry.{Entry}
-use Rattle.kernel_tables.specs.declared.entry.Entry.TheVariants.{Free, Taken, Fixed, Unspelled}
-use Rattle.space_bank.specs.FreeList.{entry_at, is_free, is_free_at, elem, first_of, Threads, IsFreeList, following, Linked}
-use Rattle.space_bank.proofs.EntryLaws.{set_cases}
+use Rattle.kernel_tables.specs.declared.entry.Entry.TheVariants.{Free}
+use Rattle.space_bank.specs.FreeList.{entry_at, is_free, elem, first_of, Threads, IsFreeList, following, Linked}
+use Rattle.space_bank.specs.Setup.{free_entries}
 
 elem-range_in : (a n m : ℕ) → a ≤ m → m < a + n → elem m (range_with_len a n) ≡ true
 unfolding elem
@@ -83,9 +86,18 @@ linked-free_list entries base count start some inside used linked =
           (cases_lt n start);
     }
 
--- one more object is linked
-pub linked-more : {O : Type 0} (entries : List (Entry O)) (base count start n : ℕ) → n < length entries → Linked entries base count start n → Linked (set entries n (Free (following base count n))) base count start (n + 1)
-linked-more entries base count start n inside linked =
-    λ m low high.
-    set_cases (λ e. e ≡ Free (following base count m)) entries n m (Free (following base count n)) inside
-    (λ same. ap (λ k. Free (following base count k)) same) (λ other. linked m low (omega arith))
+-- linked so far
+pub link-none : {O : Type 0} (entries : List (Entry O)) (base count start : ℕ) → overwritten entries start (free_entries base count start 0) ≡ entries
+unfolding free_entries
+link-none entries base count start = overwritten-none entries start
+
+pub link-more : {O : Type 0} (entries : List (Entry O)) (base count start n next : ℕ) → start + n ≡ next → next < length entries → set (overwritten entries start (free_entries base count start n)) next (Free (following base count next)) ≡ overwritten entries start (free_entries base count start (n + 1))
+unfolding free_entries
+link-more {O} entries base count start n next e inside =
+    let link = λ (k : ℕ). let entry : Entry O = Free (following base count k) in entry in
+    overwritten-more entries start (map link (range_with_len start n)) (link next) next
+    (ap (λ k. start + k) (length-map-range_with_len link start n) ∙ e) inside
+    ∙ ap (overwritten entries start) (sym (map-range_with_len_more link start n next e))
+
+-- for a function that links
+pub ruleset linking = (link-none, link-more)

@@ -1,11 +1,19 @@
 //! The space bank: which pages and nodes of the store are free, and how many pages are promised.
 #![tactic(auto)]
 
+mod contents;
+mod counts;
+mod empty;
 mod entries;
 mod nodes;
 mod pages;
 mod promises;
+#[cfg(test)]
+mod tests;
 
+pub use contents::{copy_page, write_key, write_page};
+pub use counts::{lower_node, lower_page, node_count, page_count, raise_node, raise_page};
+pub use empty::setup;
 pub use kernel_tables::{NodeOwner, PageOwner};
 pub use nodes::{give_node, take_node};
 pub use pages::{give_page, take_page};

@@ -5,7 +5,8 @@ ghost use Rattle.kn_base.specs.declared.key.Key.TheVariants.{Null};
 ghost use Rattle.kn_base.specs.Rows.{overwritten};
 ghost use Rattle.kn_base.specs.Memory.{Memory};
 ghost use Rattle.kernel_tables.specs.Kernel.{Kernel, kernel_of, Sized, IsSized};
-ghost use Rattle.space_bank.specs.Shares.{SharesTaken, NodeShares, node_places};
+ghost use Rattle.space_bank.specs.Shares.{PutsNodeInHand, TakesNodeOutOfHand, node_places};
+ghost use Rattle.space_bank.specs.Fixed.{FixedNodes};
 ghost use Rattle.space_bank.specs.FreeList.{entry_at, is_free};
 ghost use Rattle.space_bank.specs.Bank.{BankGood, NoneFree, IsFirstFree, TakesNode, IsTakenOnce, node_taken, node_given};
 
@@ -48,7 +49,7 @@ fn use_node<T: Store>(store: &mut T, node: NodeId, owner: NodeOwner)
 pub fn take_node<T: Store>(store: &mut T, owner: NodeOwner) -> Option<NodeId>
     requires { BankGood (kernel_of (T.memory store.old)) }
     ensures taken { let old = kernel_of (T.memory store.old) in let new = kernel_of (T.memory store.new) in MatchOption result (NoneFree old.node_entries old.nodes × (new ≡ old)) (λ node. TakesNode old new node.0 owner) }
-    ensures shares { let old = kernel_of (T.memory store.old) in let new = kernel_of (T.memory store.new) in IfSome result (λ node. SharesTaken (NodeShares old) (NodeShares new) (node_places old.keys) node.0) }
+    ensures shares { IfSome result (λ node. PutsNodeInHand (kernel_of (T.memory store.old)) (kernel_of (T.memory store.new)) node.0) }
     ensures good { BankGood (kernel_of (T.memory store.new)) }
     ensures keeps { T.keeps store.old store.new }
 {
@@ -91,12 +92,15 @@ fn free_up<T: Store>(store: &mut T, node: NodeId)
     set_nodes_taken(store, taken);
 }
 
-/// Gives a taken node with share count 1 back. Its keys become Null.
+/// Gives a taken node with share count 1 back, which no key names. Its keys become Null.
 pub fn give_node<T: Store>(store: &mut T, node: NodeId)
     requires good { BankGood (kernel_of (T.memory store.old)) }
     requires inside { node.0 < (kernel_of (T.memory store.old)).nodes }
     requires taken { IsTakenOnce (entry_at (kernel_of (T.memory store.old)).node_entries node.0) }
+    requires unnamed { node_places (kernel_of (T.memory store.old)).keys node.0 ≡ 0 }
     ensures given { kernel_of (T.memory store.new) ≡ node_given (kernel_of (T.memory store.old)) node.0 }
+    ensures shares { TakesNodeOutOfHand (kernel_of (T.memory store.old)) (kernel_of (T.memory store.new)) node.0 }
+    ensures fixed { FixedNodes (kernel_of (T.memory store.old)).keys → FixedNodes (kernel_of (T.memory store.new)).keys }
     ensures good { BankGood (kernel_of (T.memory store.new)) }
     ensures keeps { T.keeps store.old store.new }
 {

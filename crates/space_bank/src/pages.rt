@@ -4,7 +4,7 @@ ghost use Rattle.std.specs.Prelude.{◌≡◌, ℕ, ◌<◌, ◌≤◌, ◌+◌,
 ghost use Rattle.kn_base.specs.Memory.{Memory};
 ghost use Rattle.kernel_tables.specs.Kernel.{Kernel, kernel_of, Sized, IsSized, first_page};
 ghost use Rattle.space_bank.specs.Bank.{BankGood, NoneFree, IsFirstFree, TakesPage, IsTakenOnce, memory_taken_one, page_taken, page_given};
-ghost use Rattle.space_bank.specs.Shares.{SharesTaken, PageShares, page_places};
+ghost use Rattle.space_bank.specs.Shares.{PutsPageInHand, TakesPageOutOfHand, page_places};
 ghost use Rattle.space_bank.specs.FreeList.{entry_at, is_free};
 
 use super::entries::{memory_pages, memory_pages_of, next_page};
@@ -50,7 +50,7 @@ fn use_page<T: Store>(store: &mut T, n: u32, owner: PageOwner)
 pub fn take_page<T: Store>(store: &mut T, owner: PageOwner) -> Option<PageId>
     requires { BankGood (kernel_of (T.memory store.old)) }
     ensures taken { let old = kernel_of (T.memory store.old) in let new = kernel_of (T.memory store.new) in MatchOption result (NoneFree old.page_entries old.size × (new ≡ old)) (λ page. TakesPage old new page.0 owner) }
-    ensures shares { let old = kernel_of (T.memory store.old) in let new = kernel_of (T.memory store.new) in IfSome result (λ page. SharesTaken (PageShares old) (PageShares new) (page_places old.keys) page.0) }
+    ensures shares { IfSome result (λ page. PutsPageInHand (kernel_of (T.memory store.old)) (kernel_of (T.memory store.new)) page.0) }
     ensures good { BankGood (kernel_of (T.memory store.new)) }
     ensures keeps { T.keeps store.old store.new }
 {
@@ -84,13 +84,15 @@ fn free_up<T: Store>(store: &mut T, n: u32, page: u32)
     set_memory_taken(store, memory);
 }
 
-/// Gives a taken page with share count 1 back. It becomes zero.
+/// Gives a taken page with share count 1 back, which no key names. It becomes zero.
 pub fn give_page<T: Store>(store: &mut T, page: PageId)
     requires good { BankGood (kernel_of (T.memory store.old)) }
     requires low { first_page (kernel_of (T.memory store.old)).size ≤ page.0 }
     requires high { page.0 < first_page (kernel_of (T.memory store.old)).size + (kernel_of (T.memory store.old)).size }
     requires taken { IsTakenOnce (entry_at (kernel_of (T.memory store.old)).page_entries (page.0 - first_page (kernel_of (T.memory store.old)).size)) }
+    requires unnamed { page_places (kernel_of (T.memory store.old)).keys page.0 ≡ 0 }
     ensures given { let old = kernel_of (T.memory store.old) in kernel_of (T.memory store.new) ≡ page_given old (page.0 - first_page old.size) }
+    ensures shares { TakesPageOutOfHand (kernel_of (T.memory store.old)) (kernel_of (T.memory store.new)) page.0 }
     ensures good { BankGood (kernel_of (T.memory store.new)) }
     ensures keeps { T.keeps store.old store.new }
 {

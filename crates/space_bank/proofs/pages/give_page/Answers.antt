@@ -1,8 +1,9 @@
-use Rattle.std.proofs.Common.{◌≡◌, ℕ, ◌-◌, ◌<◌, ◌≤◌, ◌∙◌, sym, ap, subst, arith}
+use Rattle.std.proofs.Common.{◌≡◌, ℕ, ◌+◌, ◌-◌, ◌<◌, ◌≤◌, ◌∙◌, sym, ap, subst, arith}
 use Rattle.kernel_tables.specs.Kernel.{kernel_of, first_page}
 use Rattle.space_bank.specs.FreeList.{entry_at}
 use Rattle.space_bank.specs.Bank.{BankGood, IsTakenOnce, memory_taken_one}
 use Rattle.space_bank.proofs.BankLaws.{bank_good-page_given, page-counted}
+use Rattle.space_bank.proofs.ShareLaws.{page-given_out_of_hand}
 use Rattle.space_bank.proofs.pages.give_page.Goals as goal
 
 pub free_up-requires-clause-some_page : goal.free_up-requires-clause-some_page
@@ -33,3 +34,17 @@ returns-clause-good g c =
     in
     subst BankGood (sym c.free_up.ensures.written)
     (bank_good-page_given kernel (c.args.page.0 - c.first_bank_page.result) inside taken c.requires.good)
+
+pub returns-clause-shares : goal.returns-clause-shares
+returns-clause-shares g c =
+    let kernel = kernel_of (g.T.Store.memory c.args.store.now) in
+    let first : first_page kernel.size ≡ c.first_bank_page.result =
+    sym (c.first_bank_page.ensures ∙ ap first_page c.bank_size.ensures)
+    in
+    let inside : c.args.page.0 - c.first_bank_page.result < kernel.size = omega (arith, c.requires.low, c.requires.high) in
+    let number : first_page kernel.size + (c.args.page.0 - c.first_bank_page.result) ≡ c.args.page.0 = omega (arith, c.requires.low) in
+    let taken : IsTakenOnce (entry_at kernel.page_entries (c.args.page.0 - c.first_bank_page.result)) =
+    subst (λ (x : ℕ). IsTakenOnce (entry_at kernel.page_entries (c.args.page.0 - x))) first c.requires.taken
+    in
+    page-given_out_of_hand kernel (kernel_of (g.T.Store.memory c.free_up.new.store))
+    (c.args.page.0 - c.first_bank_page.result) c.args.page.0 number inside taken c.free_up.ensures.written

@@ -2,8 +2,8 @@ use Rattle.std.proofs.Common.{ℕ, ◌+◌, ◌≡◌, ◌<◌, ◌∙◌, sym, 
 use Rattle.kernel_tables.specs.Kernel.{Kernel, kernel_of, first_page}
 use Rattle.space_bank.specs.Bank.{BankGood}
 use Rattle.space_bank.proofs.BankLaws.{bank_good-page_taken}
-use Rattle.space_bank.specs.Shares.{SharesTaken, PageShares, page_places}
-use Rattle.space_bank.proofs.ShareLaws.{page-shares}
+use Rattle.space_bank.specs.Shares.{PutsPageInHand}
+use Rattle.space_bank.proofs.ShareLaws.{page-taken_in_hand}
 use Rattle.space_bank.proofs.pages.take_page.Goals as goal
 
 pub overflow_add-result : goal.overflow_add-result
@@ -27,5 +27,5 @@ returns-in-Some-clause-shares g c =
     let new = kernel_of (g.T.Store.memory c.use_page.new.store) in
     let size : c.bank_size.result ≡ kernel.size = c.bank_size.ensures ∙ ap (λ (k : Kernel). k.size) c.use_page.ensures.written in
     let first : first_page kernel.size ≡ c.first_bank_page.result = sym (c.first_bank_page.ensures ∙ ap first_page size) in
-    subst (λ (x : ℕ). SharesTaken (PageShares kernel) (PageShares new) (page_places kernel.keys) (x + c.in-Some.n)) first
-    (page-shares kernel new c.in-Some.n c.args.owner c.in-Some.ensures.first c.use_page.ensures.written)
+    subst (λ (x : ℕ). PutsPageInHand kernel new (x + c.in-Some.n)) first
+    (page-taken_in_hand kernel new c.in-Some.n c.args.owner c.in-Some.ensures.first c.use_page.ensures.written)

@@ -1,0 +1,26 @@
+-- The sizes of the tables of a store.
+use Rattle.std.proofs.Common.{◌≡◌, ℕ, ◌<◌, length, get_or, ap, sym, ◌∙◌, arith}
+use Rattle.kn_base.specs.Memory.{Memory, page_at}
+use Rattle.kn_base.proofs.RowLaws.{length-table_at}
+use Rattle.kernel_tables.specs.Files.{inode_entry_of, description_entry_of}
+use Rattle.kernel_tables.specs.Kernel.{kernel_of, tables_of, first_page, Sized, IsBankPage, bank_page}
+use Rattle.kernel_tables.proofs.Places.{get_or-bank}
+
+pub length-inodes : (memory : Memory) → Sized (kernel_of memory) → length (kernel_of memory).inodes ≡ 1024
+unfolding kernel_of tables_of first_page
+length-inodes memory sized = length-table_at inode_entry_of 32 128 2 8 memory.pages (omega (arith, sized.all_pages))
+
+pub length-descriptions : (memory : Memory) → Sized (kernel_of memory) → length (kernel_of memory).descriptions ≡ 2048
+unfolding kernel_of tables_of first_page
+length-descriptions memory sized = length-table_at description_entry_of 16 256 10 8 memory.pages (omega (arith, sized.all_pages))
+
+-- A page of the bank has 4,096 bytes, and they are bytes.
+pub length-bank_page : (memory : Memory) (page : ℕ) → Sized (kernel_of memory) → IsBankPage (kernel_of memory).size page → ((n : ℕ) → n < length memory.pages → length (page_at memory n) ≡ 4096) → length (bank_page (kernel_of memory) page) ≡ 4096
+unfolding kernel_of tables_of
+length-bank_page memory page sized inside lengths =
+    ap length (sym (get_or-bank _ memory.pages page inside.low)) ∙ lengths page (omega (arith, sized.all_pages, inside.high))
+
+pub bank_page-bytes : (memory : Memory) (page place : ℕ) → IsBankPage (kernel_of memory).size page → ((n k : ℕ) → get_or (page_at memory n) k 0 < 256) → get_or (bank_page (kernel_of memory) page) place 0 < 256
+unfolding kernel_of tables_of
+bank_page-bytes memory page place inside bytes =
+    rw (← (get_or-bank _ memory.pages page inside.low)) (bytes page place)

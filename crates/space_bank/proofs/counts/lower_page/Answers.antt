@@ -1,0 +1,28 @@
+use Rattle.std.proofs.Common.{◌≡◌, ◌+◌, ◌-◌, ◌<◌, ◌∙◌, sym, ap, subst, arith}
+use Rattle.kernel_tables.specs.Kernel.{kernel_of, first_page}
+use Rattle.space_bank.specs.FreeList.{entry_at, shares}
+use Rattle.space_bank.specs.Bank.{BankGood}
+use Rattle.space_bank.proofs.ChangeLaws.{page-lowered, bank_good-page_counted, counted_by_number, shared_taken}
+use Rattle.space_bank.proofs.counts.lower_page.Goals as goal
+
+pub returns-clause-shares : goal.returns-clause-shares
+returns-clause-shares g c =
+    let kernel = kernel_of (g.T.Store.memory c.args.store.now) in
+    let new = kernel_of (g.T.Store.memory c.count_page.new.store) in
+    let inside : c.args.page.0 - first_page kernel.size < kernel.size = omega (arith, c.requires.page.low, c.requires.page.high) in
+    let number : first_page kernel.size + (c.args.page.0 - first_page kernel.size) ≡ c.args.page.0 = omega (arith, c.requires.page.low) in
+    page-lowered kernel new (c.args.page.0 - first_page kernel.size) c.args.page.0 number inside (shared_taken (entry_at kernel.page_entries (c.args.page.0 - first_page kernel.size)) (omega (arith, c.requires.shared)))
+    (counted_by_number kernel new c.args.page.0 c.first_bank_page.result c.count_in-count.result (λ x. x - 1)
+    (c.first_bank_page.ensures ∙ ap first_page c.bank_size.ensures) (c.count_in-count.ensures ∙ ap shares c.page_entry.ensures)
+    c.count_page.ensures.counted)
+
+pub returns-clause-good : goal.returns-clause-good
+returns-clause-good g c =
+    let kernel = kernel_of (g.T.Store.memory c.args.store.now) in
+    let new = kernel_of (g.T.Store.memory c.count_page.new.store) in
+    let inside : c.args.page.0 - first_page kernel.size < kernel.size = omega (arith, c.requires.page.low, c.requires.page.high) in
+    subst BankGood (sym (counted_by_number kernel new c.args.page.0 c.first_bank_page.result c.count_in-count.result (λ x. x - 1)
+    (c.first_bank_page.ensures ∙ ap first_page c.bank_size.ensures) (c.count_in-count.ensures ∙ ap shares c.page_entry.ensures)
+    c.count_page.ensures.counted))
+    (bank_good-page_counted kernel (c.args.page.0 - first_page kernel.size)
+    (shares (entry_at kernel.page_entries (c.args.page.0 - first_page kernel.size)) - 1) inside (shared_taken (entry_at kernel.page_entries (c.args.page.0 - first_page kernel.size)) (omega (arith, c.requires.shared))) (omega (arith, c.requires.shared)) c.requires.good)
