@@ -1,0 +1,9 @@
+pub mod AnswerLaws
+pub mod LayoutLaws
+pub mod LineLaws
+pub mod NameLaws
+pub mod OperandLaws
+pub mod ProgramLaws
+pub mod ScanLaws
+pub mod SizeLaws
+pub mod FileLaws

@@ -1,0 +1,11 @@
+pub mod Choices
+pub mod Letters
+pub mod Lines
+pub mod Operands
+pub mod Mnemonics
+pub mod Statements
+pub mod Layout
+pub mod Programs
+pub mod Files
+pub mod Views
+pub mod Answers
