@@ -1,5 +1,5 @@
 -- A boot, step by step.
-use Rattle.std.proofs.Common.{◌≡◌, ℕ, List, Option, Some, None, Ok, Err, Result, Bool, true, false, IsSome, refl, sym, ap, subst, ◌∙◌}
+use Rattle.std.proofs.Common.{◌≡◌, ℕ, List, Option, Some, None, Ok, Err, Result, false, refl, sym, ap, subst, ◌∙◌}
 use Rattle.std.proofs.lemmas.Bool.{eq-eqb, lt-ltb}
 use Rattle.std.specs.Prelude.{slice_index, length, not, ◌||◌, ◌==◌, ◌<◌, nat_le, if◌then◌else◌}
 use Rattle.flat_unix.specs.Boots.{Starts, IsStoreFault}
@@ -87,7 +87,9 @@ module _ {S K : Type 0} (turns pages quantum : ℕ) (left : S → Option (List �
   unread-ends bytes after ending.WriteFault never = absurd never
   unread-ends bytes after (ending.Halted word) never = absurd never
   unread-ends bytes after (ending.TurnsSpent made) never = absurd never
+  unread-ends bytes after ending.Assembled never = absurd never
   unread-ends bytes after ending.Usage never = absurd never
+  unread-ends bytes after (ending.NotAssembled kind line) never = absurd never
 
   -- the machine wasn't booted
   pub unbooted-ends : (booted : Result Unix model.Refusal) (ending : Ending) → Boots booted (Err ending) → Ends turns booted left grew source old old ending
@@ -97,4 +99,6 @@ module _ {S K : Type 0} (turns pages quantum : ℕ) (left : S → Option (List �
   unbooted-ends booted ending.WriteFault never = absurd never
   unbooted-ends booted (ending.Halted word) never = absurd never
   unbooted-ends booted (ending.TurnsSpent made) never = absurd never
+  unbooted-ends booted ending.Assembled never = absurd never
   unbooted-ends booted ending.Usage never = absurd never
+  unbooted-ends booted (ending.NotAssembled kind line) never = absurd never

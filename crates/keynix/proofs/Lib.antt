@@ -1,3 +1,4 @@
 pub mod SoFar
 pub mod BootSteps
 pub mod Told
+pub mod LongSource

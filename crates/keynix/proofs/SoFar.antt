@@ -1,5 +1,5 @@
 -- A run so far, and the rest.
-use Rattle.std.proofs.Common.{◌≡◌, ℕ, suc, ◌+◌, List, [], ◌++◌, Option, Some, None, refl, sym, ap, ap₂, subst, ◌∙◌, append-nil, append_assoc, add-zero, arith}
+use Rattle.std.proofs.Common.{◌≡◌, ℕ, suc, ◌+◌, List, [], ◌++◌, Option, Some, None, sym, ap, ap₂, subst, ◌∙◌, append-nil, append_assoc, add-zero}
 use Rattle.kn_io.specs.Sink.{GrewByPrefix}
 use Rattle.unix_model.specs.declared.calls.Turned.{Turned}
 use Rattle.unix_model.specs.Effect.{Turn}

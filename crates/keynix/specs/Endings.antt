@@ -10,8 +10,10 @@ use Rattle.unix_model.specs.Boot as model
 use Rattle.unix_model.specs.Machine as machine
 use Rattle.unix_model.specs.Schedule.{Round, unix_run}
 use Rattle.unix_model.specs.State.{Unix}
+use Rattle.rv_asm.specs.Files.{IsFile}
+use Rattle.rv_asm.specs.Programs as asm
 use Rattle.keynix.specs.declared.ending.Ending.{Ending}
-use Rattle.keynix.specs.declared.ending.Ending.TheVariants.{Halted, TurnsSpent, Usage, Refused, ReadFault, WriteFault, NoMemory}
+use Rattle.keynix.specs.declared.ending.Ending.TheVariants.{Halted, TurnsSpent, Assembled, Usage, Refused, NotAssembled, ReadFault, WriteFault, NoMemory}
 use Rattle.keynix.specs.declared.ending.Refusal.{Refusal}
 use Rattle.keynix.specs.declared.ending.Refusal.TheVariants.{NotBuilt, NoRoom, Elf}
 
@@ -35,8 +37,10 @@ IsCaused read write ReadFault = read
 IsCaused read write WriteFault = write
 IsCaused read write (Halted word) = Unit {0}
 IsCaused read write (TurnsSpent turns) = Unit {0}
+IsCaused read write Assembled = Unit {0}
 IsCaused read write Usage = ⊥
 IsCaused read write (Refused refusal) = Unit {0}
+IsCaused read write (NotAssembled kind line) = Unit {0}
 IsCaused read write NoMemory = Unit {0}
 
 -- a run was made whole: why it ended, and how often the machine turned; the output got the bytes that it puts, and
@@ -57,8 +61,10 @@ RunsOn turns unix left grew source old new (TurnsSpent made) = RunsWhole turns u
 RunsOn turns unix left grew source old new ReadFault = PutsPart turns unix grew old new
 RunsOn turns unix left grew source old new WriteFault = PutsPart turns unix grew old new
 RunsOn turns unix left grew source old new NoMemory = PutsPart turns unix grew old new
+RunsOn turns unix left grew source old new Assembled = ⊥
 RunsOn turns unix left grew source old new Usage = ⊥
 RunsOn turns unix left grew source old new (Refused refusal) = ⊥
+RunsOn turns unix left grew source old new (NotAssembled kind line) = ⊥
 
 -- the input is refused so, and nothing was put
 abbrev pub RefusesAs : {K : Type 0} → model.Refusal → K → K → Ending → Type 0
@@ -68,7 +74,9 @@ RefusesAs refusal old new NoMemory = new ≡ old
 RefusesAs refusal old new WriteFault = ⊥
 RefusesAs refusal old new (Halted word) = ⊥
 RefusesAs refusal old new (TurnsSpent turns) = ⊥
+RefusesAs refusal old new Assembled = ⊥
 RefusesAs refusal old new Usage = ⊥
+RefusesAs refusal old new (NotAssembled kind line) = ⊥
 
 -- the ending of `once` by the boot of its input
 abbrev pub Ends : {S K : Type 0} → ℕ → Result Unix model.Refusal → (S → Option (List ℕ)) → (K → List ℕ → K → Type 0) → S → K → K → Ending → Type 0
@@ -86,7 +94,9 @@ Reads bytes left (Err NoMemory) = Unit {0}
 Reads bytes left (Err WriteFault) = ⊥
 Reads bytes left (Err (Halted word)) = ⊥
 Reads bytes left (Err (TurnsSpent turns)) = ⊥
+Reads bytes left (Err Assembled) = ⊥
 Reads bytes left (Err Usage) = ⊥
+Reads bytes left (Err (NotAssembled kind line)) = ⊥
 
 -- the machine that was booted, or why none was
 abbrev pub Boots : Result Unix model.Refusal → Result Flat Ending → Type 0
@@ -97,4 +107,60 @@ Boots booted (Err ReadFault) = ⊥
 Boots booted (Err WriteFault) = ⊥
 Boots booted (Err (Halted word)) = ⊥
 Boots booted (Err (TurnsSpent turns)) = ⊥
+Boots booted (Err Assembled) = ⊥
 Boots booted (Err Usage) = ⊥
+Boots booted (Err (NotAssembled kind line)) = ⊥
+
+-- why a source wasn't read
+abbrev pub IsUnread : Type 0 → Ending → Type 0
+IsUnread read ReadFault = read
+IsUnread read NoMemory = Unit {0}
+IsUnread read WriteFault = ⊥
+IsUnread read (Halted word) = ⊥
+IsUnread read (TurnsSpent turns) = ⊥
+IsUnread read Assembled = ⊥
+IsUnread read Usage = ⊥
+IsUnread read (Refused refusal) = ⊥
+IsUnread read (NotAssembled kind line) = ⊥
+
+-- the file of a source was written: the source means a program, the output got exactly the bytes of its file, and
+-- nothing is left of the input
+pub record WritesFile {S K : Type 0} (meaning : Result asm.Program asm.Refusal) (left : S → Option (List ℕ)) (grew : K → List ℕ → K → Type 0) (source : S) (old new : K) : Type 0 where
+  pub program : asm.Program
+  pub file : List ℕ
+  pub means : meaning ≡ Ok program
+  pub is_file : IsFile program file
+  pub output_grew : grew old file new
+  pub input_ended : left source ≡ Some []
+
+-- a part of the file of a source was written: the output got a front of its bytes
+pub record WritesPart {K : Type 0} (meaning : Result asm.Program asm.Refusal) (grew : K → List ℕ → K → Type 0) (old new : K) : Type 0 where
+  pub program : asm.Program
+  pub file : List ℕ
+  pub means : meaning ≡ Ok program
+  pub is_file : IsFile program file
+  pub output_grew : GrewByPrefix grew old file new
+
+-- the ending of `asm` by the meaning of its source
+abbrev pub EndsAssembly : {S K : Type 0} → Result asm.Program asm.Refusal → (S → Option (List ℕ)) → (K → List ℕ → K → Type 0) → S → K → K → Ending → Type 0
+EndsAssembly meaning left grew source old new Assembled = WritesFile meaning left grew source old new
+EndsAssembly meaning left grew source old new (NotAssembled kind line) = meaning ≡ Err (record { kind = kind; line = line })
+EndsAssembly meaning left grew source old new WriteFault = WritesPart meaning grew old new
+EndsAssembly meaning left grew source old new ReadFault = Unit {0}
+EndsAssembly meaning left grew source old new NoMemory = Unit {0}
+EndsAssembly meaning left grew source old new (Halted word) = ⊥
+EndsAssembly meaning left grew source old new (TurnsSpent turns) = ⊥
+EndsAssembly meaning left grew source old new Usage = ⊥
+EndsAssembly meaning left grew source old new (Refused refusal) = ⊥
+
+-- the endings of `asm`, whatever is told of the input: the output is as before where no file was written
+abbrev pub KeepsOutput : {K : Type 0} → K → K → Ending → Type 0
+KeepsOutput old new Assembled = Unit {0}
+KeepsOutput old new WriteFault = Unit {0}
+KeepsOutput old new (NotAssembled kind line) = new ≡ old
+KeepsOutput old new ReadFault = new ≡ old
+KeepsOutput old new NoMemory = new ≡ old
+KeepsOutput old new (Halted word) = ⊥
+KeepsOutput old new (TurnsSpent turns) = ⊥
+KeepsOutput old new Usage = ⊥
+KeepsOutput old new (Refused refusal) = ⊥

@@ -1,16 +1,16 @@
 -- What each status of the program promises.
-use Rattle.std.specs.Prelude.{◌≡◌, ◌≢◌, ℕ, List, [], ◌⊎◌, Option, Some, None, Result, Ok, Err}
-use Rattle.kn_io.specs.Sink.{GrewByPrefix}
+use Rattle.std.specs.Prelude.{◌≡◌, ℕ, List, [], Option, Some, None, Result, Ok, Err}
+use Rattle.rv_asm.specs.Programs as asm
 use Rattle.unix_model.specs.Boot.{Refusal, booted}
 use Rattle.unix_model.specs.Machine.{Stop, Halted, PlanDone, Going}
 use Rattle.unix_model.specs.Notes.{halted_note, spent_note}
 use Rattle.unix_model.specs.Schedule.{Round, unix_run}
 use Rattle.unix_model.specs.State.{Unix}
-use Rattle.unix_model.specs.Words.{Command, Once, default_pages, default_quantum}
+use Rattle.unix_model.specs.Words.{Command, Once, Asm, default_pages, default_quantum}
 use Rattle.keynix.specs.declared.ending.Ending.{Ending}
 use Rattle.keynix.specs.declared.ending.Ending.TheVariants.{Usage}
-use Rattle.keynix.specs.Endings.{Ends, IsCaused, RunsWhole}
-use Rattle.keynix.specs.Telling.{Tells, ending_note, refusal_note}
+use Rattle.keynix.specs.Endings.{Ends, EndsAssembly, IsCaused, KeepsOutput, RunsWhole}
+use Rattle.keynix.specs.Telling.{Tells, refusal_note, source_note}
 
 -- the machine that an input boots
 abbrev pub boot_of : List ℕ → Result Unix Refusal
@@ -18,11 +18,9 @@ boot_of bytes = booted default_pages default_quantum bytes
 
 -- The machine of the input halted: the output got the bytes that the run puts, the notes the note of its wait word, and
 -- nothing is left of the input.
-pub record HaltsOn {S K E : Type 0} (command : Option Command) (bytes : List ℕ) (left : S → Option (List ℕ)) (grew : K → List ℕ → K → Type 0) (noted : E → List ℕ → E → Type 0) (source : S) (output_old output_new : K) (notes_old notes_new : E) : Type 0 where
-  pub turns : ℕ
+pub record HaltsOn {S K E : Type 0} (turns : ℕ) (bytes : List ℕ) (left : S → Option (List ℕ)) (grew : K → List ℕ → K → Type 0) (noted : E → List ℕ → E → Type 0) (source : S) (output_old output_new : K) (notes_old notes_new : E) : Type 0 where
   pub unix : Unix
   pub word : ℕ
-  pub command_is : command ≡ Some (Once turns)
   pub boots : boot_of bytes ≡ Ok unix
   pub runs : RunsWhole turns unix left grew source output_old output_new (Halted word)
   pub notes_grew : noted notes_old (halted_note word) notes_new
@@ -36,18 +34,25 @@ pub record SpendsOn {S K E : Type 0} (command : Option Command) (bytes : List �
   pub runs : RunsWhole turns unix left grew source output_old output_new Going
   pub notes_grew : noted notes_old (spent_note (unix_run turns unix Round []).turns) notes_new
 
--- The input is refused: the notes got the note of why, and the output nothing.
-pub record RefusesOn {K E : Type 0} (command : Option Command) (bytes : List ℕ) (noted : E → List ℕ → E → Type 0) (output_old output_new : K) (notes_old notes_new : E) : Type 0 where
-  pub turns : ℕ
+-- The input isn't booted: the notes got the note of why, and the output nothing.
+pub record RefusesInput {K E : Type 0} (bytes : List ℕ) (noted : E → List ℕ → E → Type 0) (output_old output_new : K) (notes_old notes_new : E) : Type 0 where
   pub refusal : Refusal
-  pub command_is : command ≡ Some (Once turns)
   pub boots : boot_of bytes ≡ Err refusal
   pub output_stays : output_new ≡ output_old
   pub notes_grew : noted notes_old (refusal_note refusal) notes_new
 
--- the notes got a front of one note, or all of it
-abbrev pub PutsPartOfNote : {E : Type 0} → (E → List ℕ → E → Type 0) → E → E → Type 0
-PutsPartOfNote noted old new = (ending : Ending) × GrewByPrefix noted old (ending_note ending) new
+-- The source is refused: the notes got the note of why and of the line, and the output nothing.
+pub record RefusesSource {K E : Type 0} (bytes : List ℕ) (noted : E → List ℕ → E → Type 0) (output_old output_new : K) (notes_old notes_new : E) : Type 0 where
+  pub refusal : asm.Refusal
+  pub means : asm.assembled bytes ≡ Err refusal
+  pub output_stays : output_new ≡ output_old
+  pub notes_grew : noted notes_old (source_note refusal) notes_new
+
+-- what is refused, by the command
+abbrev pub RefusesOn : {K E : Type 0} → Option Command → List ℕ → (E → List ℕ → E → Type 0) → K → K → E → E → Type 0
+RefusesOn None bytes noted output_old output_new notes_old notes_new = ⊥
+RefusesOn (Some (Once turns)) bytes noted output_old output_new notes_old notes_new = RefusesInput bytes noted output_old output_new notes_old notes_new
+RefusesOn (Some Asm) bytes noted output_old output_new notes_old notes_new = RefusesSource bytes noted output_old output_new notes_old notes_new
 
 -- the status of a run that ended so
 abbrev pub stop_status : Stop → ℕ
@@ -60,6 +65,9 @@ abbrev pub ByCommand : {S K : Type 0} → Option Command → (S → Option (List
 ByCommand None left grew read write source_old source_new old new ending = (ending ≡ Usage) × (source_new ≡ source_old) × (new ≡ old)
 ByCommand (Some (Once turns)) left grew read write source_old source_new old new ending =
     IsCaused read write ending × ((bytes : List ℕ) → left source_old ≡ Some bytes → Ends turns (boot_of bytes) left grew source_new old new ending)
+ByCommand (Some Asm) left grew read write source_old source_new old new ending =
+    IsCaused read write ending × KeepsOutput old new ending
+    × ((bytes : List ℕ) → left source_old ≡ Some bytes → EndsAssembly (asm.assembled bytes) left grew source_new old new ending)
 
 -- some ending follows from the words and the input, and it was told
 pub record Answers {S K E : Type 0} (command : Option Command) (left : S → Option (List ℕ)) (grew : K → List ℕ → K → Type 0) (noted : E → List ℕ → E → Type 0) (read write note : Type 0) (source_old source_new : S) (output_old output_new : K) (notes_old notes_new : E) (status : ℕ) : Type 0 where

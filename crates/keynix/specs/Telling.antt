@@ -1,12 +1,16 @@
 -- The note and the status of each ending.
-use Rattle.std.specs.Prelude.{◌≡◌, ℕ, List, ◌⊎◌, ◌++◌, codes}
+use Rattle.std.specs.Prelude.{◌≡◌, ℕ, List, Option, Some, None, ◌⊎◌, ◌++◌, codes}
+use Rattle.std.specs.Fmt.{decimal}
 use Rattle.kn_io.specs.Sink.{GrewByPrefix}
 use Rattle.unix_model.specs.Boot as model
 use Rattle.unix_model.specs.Notes.{halted_note, spent_note}
 use Rattle.unix_model.specs.declared.elf.ElfFault.{ElfFault}
 use Rattle.unix_model.specs.declared.elf.ElfFault.TheVariants.{Short, NotElf, NotRv32, NotStatic, BadHeader, BadSegment, TooMany}
+use Rattle.rv_asm.specs.declared.fault.AsmKind.{AsmKind}
+use Rattle.rv_asm.specs.declared.fault.AsmKind.TheVariants.{Syntax, UnknownLabel, DoubleLabel, OutOfRange, TooLong}
+use Rattle.rv_asm.specs.Programs as asm
 use Rattle.keynix.specs.declared.ending.Ending.{Ending}
-use Rattle.keynix.specs.declared.ending.Ending.TheVariants.{Halted, TurnsSpent, Usage, Refused, ReadFault, WriteFault, NoMemory}
+use Rattle.keynix.specs.declared.ending.Ending.TheVariants.{Halted, TurnsSpent, Assembled, Usage, Refused, NotAssembled, ReadFault, WriteFault, NoMemory}
 use Rattle.keynix.specs.Endings.{refusal_view}
 
 -- the name of the kind of a refused ELF file
@@ -19,15 +23,27 @@ elf_kind BadHeader = codes "BadHeader"
 elf_kind BadSegment = codes "BadSegment"
 elf_kind TooMany = codes "TooMany"
 
--- the name of the kind of a refused input
+-- the name of the kind of an input that isn't booted
 abbrev pub kind : model.Refusal → List ℕ
 kind model.NotBuilt = codes "NotBuilt"
 kind model.NoRoom = codes "NoRoom"
 kind (model.Elf fault) = elf_kind fault
 
--- the note of a refused input; its line is 0
+-- the note of an input that isn't booted; its line is 0
 unfoldable pub refusal_note : model.Refusal → List ℕ
 refusal_note refusal = codes "bad input " ++ kind refusal ++ codes " 0\n"
+
+-- the name of the kind of a refused source
+abbrev pub source_kind : AsmKind → List ℕ
+source_kind Syntax = codes "Syntax"
+source_kind UnknownLabel = codes "UnknownLabel"
+source_kind DoubleLabel = codes "DoubleLabel"
+source_kind OutOfRange = codes "OutOfRange"
+source_kind TooLong = codes "TooLong"
+
+-- the note of a refused source, with the line that is refused
+unfoldable pub source_note : asm.Refusal → List ℕ
+source_note refusal = codes "bad input " ++ source_kind refusal.kind ++ codes " " ++ decimal refusal.line ++ codes "\n"
 
 unfoldable pub usage_note : List ℕ
 usage_note = codes "usage: keynix DISK COMMAND [--name=value]\n"
@@ -41,19 +57,24 @@ write_fault_note = codes "write fault\n"
 unfoldable pub no_memory_note : List ℕ
 no_memory_note = codes "no memory\n"
 
-abbrev pub ending_note : Ending → List ℕ
-ending_note (Halted word) = halted_note word
-ending_note (TurnsSpent turns) = spent_note turns
-ending_note Usage = usage_note
-ending_note (Refused refusal) = refusal_note (refusal_view refusal)
-ending_note ReadFault = read_fault_note
-ending_note WriteFault = write_fault_note
-ending_note NoMemory = no_memory_note
+-- the note of an ending; where a file was written there is none
+abbrev pub ending_note : Ending → Option (List ℕ)
+ending_note (Halted word) = Some (halted_note word)
+ending_note (TurnsSpent turns) = Some (spent_note turns)
+ending_note Assembled = None
+ending_note Usage = Some usage_note
+ending_note (Refused refusal) = Some (refusal_note (refusal_view refusal))
+ending_note (NotAssembled kind line) = Some (source_note (record { kind = kind; line = line }))
+ending_note ReadFault = Some read_fault_note
+ending_note WriteFault = Some write_fault_note
+ending_note NoMemory = Some no_memory_note
 
 abbrev pub ending_status : Ending → ℕ
 ending_status (Halted word) = 0
+ending_status Assembled = 0
 ending_status Usage = 1
 ending_status (Refused refusal) = 2
+ending_status (NotAssembled kind line) = 2
 ending_status ReadFault = 3
 ending_status WriteFault = 4
 ending_status NoMemory = 6
@@ -63,16 +84,27 @@ ending_status (TurnsSpent turns) = 9
 abbrev pub TakesMemory : Ending → Type 0
 TakesMemory (Halted word) = Unit {0}
 TakesMemory (TurnsSpent turns) = Unit {0}
+TakesMemory Assembled = ⊥
 TakesMemory Usage = ⊥
 TakesMemory (Refused refusal) = ⊥
+TakesMemory (NotAssembled kind line) = Unit {0}
 TakesMemory ReadFault = ⊥
 TakesMemory WriteFault = ⊥
 TakesMemory NoMemory = ⊥
 
+-- the notes got this note, or are as before where there is none
+abbrev pub PutsNote : {E : Type 0} → (E → List ℕ → E → Type 0) → Option (List ℕ) → E → E → Type 0
+PutsNote noted None old new = new ≡ old
+PutsNote noted (Some note) old new = noted old note new
+
+-- the notes got a front of one note, or all of it
+abbrev pub PutsPartOfNote : {E : Type 0} → (E → List ℕ → E → Type 0) → E → E → Type 0
+PutsPartOfNote noted old new = (ending : Ending) × (note : List ℕ) × (ending_note ending ≡ Some note) × GrewByPrefix noted old note new
+
 -- The note of an ending was put, and the status is the ending's; or the put failed, and it is 4; or there was no memory
 -- for the note, and the note says so.
 abbrev pub Tells : {E : Type 0} → (E → List ℕ → E → Type 0) → Type 0 → Ending → E → E → ℕ → Type 0
-Tells grew rose ending old new status =
-    ((status ≡ ending_status ending) × grew old (ending_note ending) new)
-    ⊎ (((status ≡ 4) × rose × ((told : Ending) × GrewByPrefix grew old (ending_note told) new))
-    ⊎ ((status ≡ 6) × TakesMemory ending × grew old no_memory_note new))
+Tells noted rose ending old new status =
+    ((status ≡ ending_status ending) × PutsNote noted (ending_note ending) old new)
+    ⊎ (((status ≡ 4) × rose × PutsPartOfNote noted old new)
+    ⊎ ((status ≡ 6) × TakesMemory ending × noted old no_memory_note new))

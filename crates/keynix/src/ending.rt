@@ -1,6 +1,7 @@
 //! How a command ended.
 
 use elf_read::ElfFault;
+use rv_asm::AsmKind;
 
 /// Why an input isn't booted.
 #[derive(Clone, Copy, Debug, PartialEq, Eq)]
@@ -20,10 +21,14 @@ pub enum Ending {
     Halted(u32),
     /// All turns were made, so many.
     TurnsSpent(u64),
+    /// The source was assembled, and its file written.
+    Assembled,
     /// The words are no command.
     Usage,
     /// The input was refused.
     Refused(Refusal),
+    /// The source was refused at a line, of which the first is 1.
+    NotAssembled { kind: AsmKind, line: u32 },
     /// A call of the input failed.
     ReadFault,
     /// A call of the output failed.

@@ -1,15 +1,16 @@
 //! The note and the status of an ending.
 
-ghost use Rattle.std.specs.Prelude.{◌≡◌, ◌≤◌, IfOk, string_bytes};
+ghost use Rattle.std.specs.Prelude.{◌≡◌, ◌≤◌, Some, IfOk, string_bytes};
 ghost use Rattle.kn_io.specs.Faults.{Rose};
 ghost use Rattle.kn_io.specs.Sink.{GrewByPrefix};
 ghost use Rattle.unix_model.specs.Notes.{halted_note, spent_note};
-ghost use Rattle.keynix.specs.Telling.{Tells, TakesMemory, ending_note, ending_status, refusal_note};
+ghost use Rattle.keynix.specs.Telling.{Tells, TakesMemory, ending_note, ending_status, refusal_note, source_kind, source_note};
 ghost use Rattle.keynix.specs.Endings.{refusal_view};
 
 use crate::ending::{Ending, Refusal};
 use elf_read::ElfFault;
 use kn_io::{Failed, Sink};
+use rv_asm::AsmKind;
 use std::alloc::{AllocError, Global};
 
 /// The status with which the program ends.
@@ -22,8 +23,9 @@ fn status_of(ending: Ending) -> u8
 {
     match ending {
         Ending::Halted(_) => 0,
+        Ending::Assembled => 0,
         Ending::Usage => 1,
-        Ending::Refused(_) => 2,
+        Ending::Refused(_) | Ending::NotAssembled { .. } => 2,
         Ending::ReadFault => 3,
         Ending::WriteFault => 4,
         Ending::NoMemory => 6,
@@ -52,7 +54,7 @@ fn spent(alloc: Global, turns: u64) -> Result<String, AllocError>
     format!(in alloc; "turns spent {turns}\n")
 }
 
-/// The note of a refused input.
+/// The note of an input that isn't booted.
 #[tactic(auto, unfolding(crate::specs::Telling::refusal_note))]
 fn refused(refusal: Refusal) -> &'static [u8]
     ensures { result.now ≡ refusal_note (refusal_view refusal) }
@@ -70,9 +72,31 @@ fn refused(refusal: Refusal) -> &'static [u8]
     }
 }
 
+/// The name of the kind of a refused source.
+fn kind_name(kind: AsmKind) -> &'static str
+    ensures { result.now ≡ source_kind kind }
+{
+    match kind {
+        AsmKind::Syntax => "Syntax",
+        AsmKind::UnknownLabel => "UnknownLabel",
+        AsmKind::DoubleLabel => "DoubleLabel",
+        AsmKind::OutOfRange => "OutOfRange",
+        AsmKind::TooLong => "TooLong",
+    }
+}
+
+/// The note of a source that is refused at a line.
+#[tactic(auto, unfolding(crate::specs::Telling::source_note))]
+fn not_assembled(alloc: Global, kind: AsmKind, line: u32) -> Result<String, AllocError>
+    ensures { IfOk result (λ note. string_bytes note ≡ source_note (record { kind = kind; line = line })) }
+{
+    let name = kind_name(kind);
+    format!(in alloc; "bad input {name} {line}\n")
+}
+
 /// Puts the note of an ending that takes host memory, where there was some, and else a note that says so.
 fn tell_text<E: Sink>(notes: &mut E, ending: Ending, text: Result<String, AllocError>) -> Status
-    requires text { IfOk text (λ note. string_bytes note ≡ ending_note ending) }
+    requires text { IfOk text (λ note. ending_note ending ≡ Some (string_bytes note)) }
     requires takes { TakesMemory ending }
     ensures tells { Tells E.grew (Rose (E.faults notes.old) (E.faults notes.new)) ending notes.old notes.new result.0 }
     ensures counted { E.faults notes.old ≤ E.faults notes.new }
@@ -88,7 +112,7 @@ fn tell_text<E: Sink>(notes: &mut E, ending: Ending, text: Result<String, AllocE
 
 /// Puts the note of an ending.
 fn tell<E: Sink>(notes: &mut E, ending: Ending, note: &[u8]) -> Status
-    requires { note.now ≡ ending_note ending }
+    requires { ending_note ending ≡ Some note.now }
     ensures tells { Tells E.grew (Rose (E.faults notes.old) (E.faults notes.new)) ending notes.old notes.new result.0 }
     ensures counted { E.faults notes.old ≤ E.faults notes.new }
 {
@@ -98,7 +122,7 @@ fn tell<E: Sink>(notes: &mut E, ending: Ending, note: &[u8]) -> Status
     }
 }
 
-/// Tells of an ending: its note in one put, and its status.
+/// Tells of an ending: its note, where it has one, in one put, and its status.
 #[tactic(auto, unfolding(crate::specs::Telling::usage_note, crate::specs::Telling::read_fault_note, crate::specs::Telling::write_fault_note, crate::specs::Telling::no_memory_note))]
 pub fn finish<E: Sink>(alloc: Global, notes: &mut E, ending: Ending) -> Status
     ensures tells { Tells E.grew (Rose (E.faults notes.old) (E.faults notes.new)) ending notes.old notes.new result.0 }
@@ -107,12 +131,16 @@ pub fn finish<E: Sink>(alloc: Global, notes: &mut E, ending: Ending) -> Status
     match ending {
         Ending::Halted(word) => tell_text(notes, ending, halted(alloc, word)),
         Ending::TurnsSpent(turns) => tell_text(notes, ending, spent(alloc, turns)),
+        Ending::Assembled => Status(status_of(ending)),
         Ending::Usage => tell(
             notes,
             ending,
             b"usage: keynix DISK COMMAND [--name=value]\n",
         ),
         Ending::Refused(refusal) => tell(notes, ending, refused(refusal)),
+        Ending::NotAssembled { kind, line } => {
+            tell_text(notes, ending, not_assembled(alloc, kind, line))
+        }
         Ending::ReadFault => tell(notes, ending, b"read fault\n"),
         Ending::WriteFault => tell(notes, ending, b"write fault\n"),
         Ending::NoMemory => tell(notes, ending, b"no memory\n"),

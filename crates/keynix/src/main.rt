@@ -1,6 +1,7 @@
-//! The program: boots a machine from what standard input gives, runs it, and ends with a status.
+//! The program: does one command over standard input and output, and ends with a status.
 #![tactic(auto)]
 
+mod asm;
 mod ending;
 mod finish;
 mod once;

@@ -283,6 +283,18 @@ fn faults_have_their_statuses(rt: HostRuntime) -> Result<(), Fail> {
 }
 
 #[test]
+fn a_read_fault_in_a_source_has_its_status(rt: HostRuntime) -> Result<(), Fail> {
+    // The source's first byte, a byte of its second line, and its end.
+    let source = b"li a0, 7\n?\n";
+    for call in [0, 9, 11] {
+        let left = run_failing(rt.alloc(), &["d", "asm"], source, [&[call], &[], &[]])?;
+        assert_eq!(rt; (left.status, left.output.len()), (3, 0));
+        assert_eq!(rt; left.notes.as_slice(), b"read fault\n".as_slice());
+    }
+    Ok(())
+}
+
+#[test]
 fn turns_are_counted_by_the_option(rt: HostRuntime) -> Result<(), Fail> {
     for (option, status, note) in [
         ("--turns=0", 9, "turns spent 0\n"),
@@ -299,7 +311,7 @@ fn turns_are_counted_by_the_option(rt: HostRuntime) -> Result<(), Fail> {
 
 #[test]
 fn words_outside_the_grammar_are_usage(rt: HostRuntime) -> Result<(), Fail> {
-    let outside: [&[&str]; 19] = [
+    let outside: [&[&str]; 24] = [
         &[],
         &["d"],
         &["", "once"],
@@ -319,6 +331,11 @@ fn words_outside_the_grammar_are_usage(rt: HostRuntime) -> Result<(), Fail> {
         &["d", "once", "--turns=18446744073709551617"],
         &["d", "once", "--turns=1", "--turns=1"],
         &["d", "once", "--pages=64"],
+        &["-d", "asm"],
+        &["d", "asm", ""],
+        &["d", "asm", "asm"],
+        &["d", "asm", "--turns=5"],
+        &["d", "Asm"],
     ];
     for words in outside {
         let left = run(rt.alloc(), words, &EXIT_7)?;

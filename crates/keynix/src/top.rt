@@ -3,13 +3,16 @@
 ghost use Rattle.std.specs.Prelude.{◌≡◌, ◌≢◌, ◌≤◌, ◌⊎◌, ℕ, List, [], None, Some, Ok, Err, map, string_bytes};
 ghost use Rattle.kn_io.specs.Faults.{Rose};
 ghost use Rattle.kn_io.specs.Sink.{GrewByPrefix};
+ghost use Rattle.rv_asm.specs.Programs.{Program, Refusal as SourceRefusal, assembled};
 ghost use Rattle.unix_model.specs.Boot.{Refusal};
 ghost use Rattle.unix_model.specs.Schedule.{Round, unix_run};
 ghost use Rattle.unix_model.specs.State.{Unix};
-ghost use Rattle.unix_model.specs.Words.{Once, command_of};
-ghost use Rattle.keynix.specs.Promises.{Answers, HaltsOn, PutsPartOfNote, RefusesOn, SpendsOn, boot_of, stop_status};
-ghost use Rattle.keynix.specs.Telling.{no_memory_note, read_fault_note, usage_note};
+ghost use Rattle.unix_model.specs.Words.{Asm, Once, command_of};
+ghost use Rattle.keynix.specs.Endings.{WritesFile, WritesPart};
+ghost use Rattle.keynix.specs.Promises.{Answers, HaltsOn, RefusesOn, SpendsOn, boot_of, stop_status};
+ghost use Rattle.keynix.specs.Telling.{PutsPartOfNote, no_memory_note, read_fault_note, usage_note};
 
+use crate::asm::asm;
 use crate::ending::Ending;
 use crate::finish::{Status, finish};
 use crate::once::once;
@@ -36,14 +39,19 @@ fn perform<S: Source, K: Sink, E: Sink>(
             let ending = once(alloc, turns, input, output);
             finish(alloc, notes, ending)
         }
+        Some(Command::Asm) => {
+            let ending = asm(alloc, input, output);
+            finish(alloc, notes, ending)
+        }
     }
 }
 
 /// All that the program does: does what `words` say over the input, the output and the notes, and gives the status with
-/// which it ends. Each ending puts one note, in one put.
+/// which it ends. Each ending but that of a written file puts one note, in one put.
 ///
-/// 0: the machine of the input halted. 1: the words are no command. 2: the input is refused. 3: a call of the input
-/// failed. 4: a call of the output or of the notes failed. 6: host memory ran out. 9: all turns were made.
+/// 0: the machine of the input halted, or the file of the source was written. 1: the words are no command. 2: the input is
+/// refused. 3: a call of the input failed. 4: a call of the output or of the notes failed. 6: host memory ran out. 9: all
+/// turns were made.
 ///
 /// What is said of the input's bytes holds where the source tells them, and what is said of the output and the notes is
 /// by what their sinks tell; over real streams neither is told.
@@ -54,7 +62,8 @@ pub fn keynix<S: Source, K: Sink, E: Sink>(
     output: &mut K,
     notes: &mut E,
 ) -> Status
-    ensures halted { result.0 ≡ 0 → (bytes : List ℕ) → S.left input.old ≡ Some bytes → HaltsOn (command_of (map string_bytes words.now)) bytes S.left K.grew E.grew input.new output.old output.new notes.old notes.new }
+    ensures halted { result.0 ≡ 0 → (turns : ℕ) (bytes : List ℕ) → command_of (map string_bytes words.now) ≡ Some (Once turns) → S.left input.old ≡ Some bytes → HaltsOn turns bytes S.left K.grew E.grew input.new output.old output.new notes.old notes.new }
+    ensures written { result.0 ≡ 0 → (bytes : List ℕ) → command_of (map string_bytes words.now) ≡ Some Asm → S.left input.old ≡ Some bytes → WritesFile (assembled bytes) S.left K.grew input.new output.old output.new × (notes.new ≡ notes.old) }
     ensures spent { result.0 ≡ 9 → (bytes : List ℕ) → S.left input.old ≡ Some bytes → SpendsOn (command_of (map string_bytes words.now)) bytes S.left K.grew E.grew input.new output.old output.new notes.old notes.new }
     ensures refused { result.0 ≡ 2 → (bytes : List ℕ) → S.left input.old ≡ Some bytes → RefusesOn (command_of (map string_bytes words.now)) bytes E.grew output.old output.new notes.old notes.new }
 
@@ -70,11 +79,19 @@ pub fn keynix<S: Source, K: Sink, E: Sink>(
     ensures part { (turns : ℕ) (bytes : List ℕ) (unix : Unix) → command_of (map string_bytes words.now) ≡ Some (Once turns) → S.left input.old ≡ Some bytes → boot_of bytes ≡ Ok unix
         → GrewByPrefix K.grew output.old (unix_run turns unix Round []).put output.new }
 
-    // Without a fault, and with memory, the status is what the input and the run say.
+    // What is written of a source's file, where not all of it is.
+    ensures output_stays { result.0 ≢ 0 → result.0 ≢ 4 → command_of (map string_bytes words.now) ≡ Some Asm → output.new ≡ output.old }
+    ensures file_part { result.0 ≡ 4 → (bytes : List ℕ) → command_of (map string_bytes words.now) ≡ Some Asm → S.left input.old ≡ Some bytes → (output.new ≡ output.old) ⊎ WritesPart (assembled bytes) K.grew output.old output.new }
+
+    // Without a fault, and with memory, the status is what the run of the input says, or the meaning of the source.
     ensures complete { (turns : ℕ) (bytes : List ℕ) (unix : Unix) → command_of (map string_bytes words.now) ≡ Some (Once turns) → S.left input.old ≡ Some bytes → boot_of bytes ≡ Ok unix
         → ¬ Rose (S.faults input.old) (S.faults input.new) → ¬ Rose (K.faults output.old) (K.faults output.new) → ¬ Rose (E.faults notes.old) (E.faults notes.new) → result.0 ≢ 6
         → result.0 ≡ stop_status (unix_run turns unix Round []).stop }
     ensures refuses { (turns : ℕ) (bytes : List ℕ) (refusal : Refusal) → command_of (map string_bytes words.now) ≡ Some (Once turns) → S.left input.old ≡ Some bytes → boot_of bytes ≡ Err refusal
+        → ¬ Rose (S.faults input.old) (S.faults input.new) → ¬ Rose (E.faults notes.old) (E.faults notes.new) → result.0 ≢ 6 → result.0 ≡ 2 }
+    ensures assembles { (bytes : List ℕ) (program : Program) → command_of (map string_bytes words.now) ≡ Some Asm → S.left input.old ≡ Some bytes → assembled bytes ≡ Ok program
+        → ¬ Rose (S.faults input.old) (S.faults input.new) → ¬ Rose (K.faults output.old) (K.faults output.new) → ¬ Rose (E.faults notes.old) (E.faults notes.new) → result.0 ≢ 6 → result.0 ≡ 0 }
+    ensures refuses_source { (bytes : List ℕ) (refusal : SourceRefusal) → command_of (map string_bytes words.now) ≡ Some Asm → S.left input.old ≡ Some bytes → assembled bytes ≡ Err refusal
         → ¬ Rose (S.faults input.old) (S.faults input.new) → ¬ Rose (E.faults notes.old) (E.faults notes.new) → result.0 ≢ 6 → result.0 ≡ 2 }
 
     ensures input_counted { S.faults input.old ≤ S.faults input.new }

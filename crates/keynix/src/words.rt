@@ -12,6 +12,8 @@ use kn_text::number_of;
 pub enum Command {
     /// Boot the input in memory and run it, for at most so many turns.
     Once(u64),
+    /// Assemble the input, and write the ELF file.
+    Asm,
 }
 
 /// The options of a command that were given.
@@ -95,6 +97,11 @@ fn command_named(word: &str, words: &[String]) -> Option<Command>
         match read_options(words) {
             Some(options) => Some(Command::Once(options.turns.unwrap_or(DEFAULT_TURNS))),
             None => None,
+        }
+    } else if word == "asm" {
+        match words {
+            [] => Some(Command::Asm),
+            _ => None,
         }
     } else {
         None

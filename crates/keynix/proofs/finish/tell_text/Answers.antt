@@ -9,4 +9,4 @@ returns-in-Ok-put-clause-tells g c = inr (inr (refl, c.requires.takes, c.in-Ok-p
 
 pub returns-in-Err-put-clause-tells : goal.returns-in-Err-put-clause-tells
 unfolding no_memory_note
-returns-in-Err-put-clause-tells g c = inr (inl (refl, c.in-Err-put.ensures.failed, (NoMemory, c.in-Err-put.ensures.part)))
+returns-in-Err-put-clause-tells g c = inr (inl (refl, c.in-Err-put.ensures.failed, (NoMemory, no_memory_note, refl, c.in-Err-put.ensures.part)))

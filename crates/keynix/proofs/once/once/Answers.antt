@@ -1,8 +1,5 @@
-use Rattle.std.proofs.Common.{◌≡◌, List, ℕ, Ok, Some, sym, ap, subst, ◌∙◌}
-use Rattle.unix_model.specs.Boot.{booted}
 use Rattle.unix_model.specs.Words.{default_pages, default_quantum}
-use Rattle.keynix.specs.Endings.{Ends}
-use Rattle.keynix.proofs.BootSteps.{unread-ends, unbooted-ends}
+use Rattle.keynix.proofs.BootSteps.{unread-ends}
 use Rattle.keynix.proofs.once.once.Goals as goal
 
 pub returns-in-Err-clause-ends : goal.returns-in-Err-clause-ends

@@ -1,9 +1,9 @@
-use Rattle.std.proofs.Common.{◌≡◌, ◌≤◌, ℕ, suc, ◌+◌, ◌-◌, List, [], Some, None, sym, ap, subst, ◌∙◌, arith}
+use Rattle.std.proofs.Common.{◌≡◌, ℕ, suc, ◌+◌, ◌-◌, [], sym, subst, ◌∙◌, arith}
 use Rattle.kn_io.specs.Sink.{GrewByPrefix}
 use Rattle.unix_model.specs.Schedule.{Round, next_slot}
 use Rattle.unix_model.specs.Turn.{turned, MakesTurn}
 use Rattle.flat_unix.specs.FlatView.{unix_of}
-use Rattle.keynix.specs.Endings.{RunsOn, fault_ending}
+use Rattle.keynix.specs.Endings.{RunsOn}
 use Rattle.keynix.proofs.SoFar.{SoFar, so_far-step, so_far-halts, so_far-spent, so_far-part, fault-ends}
 use Rattle.keynix.proofs.once.run.Goals as goal
 
