@@ -109,7 +109,8 @@ pub fn read_bank_page<T: Store>(store: &T, page: PageId, at: u16, into: &mut [u8
     requires sized { Sized (kernel_of (T.memory store.now)) }
     requires page { IsBankPage (kernel_of (T.memory store.now)).size page.0 }
     requires within { at + length into.old ≤ 4096 }
-    ensures { into.new ≡ part_at (bank_page (kernel_of (T.memory store.now)) page.0) at (length into.old) }
+    ensures read { into.new ≡ part_at (bank_page (kernel_of (T.memory store.now)) page.0) at (length into.old) }
+    ensures whole { length (bank_page (kernel_of (T.memory store.now)) page.0) ≡ 4096 }
 {
     store.read_page(page, at, into);
 }
@@ -120,7 +121,8 @@ pub fn read_memory_page<T: Store>(store: &T, page: PageId, at: u16, into: &mut [
     requires sized { Sized (kernel_of (T.memory store.now)) }
     requires page { (page.0 ≡ 0) ⊎ IsBankPage (kernel_of (T.memory store.now)).size page.0 }
     requires within { at + length into.old ≤ 4096 }
-    ensures { into.new ≡ part_at (memory_page (kernel_of (T.memory store.now)) page.0) at (length into.old) }
+    ensures read { into.new ≡ part_at (memory_page (kernel_of (T.memory store.now)) page.0) at (length into.old) }
+    ensures whole { length (memory_page (kernel_of (T.memory store.now)) page.0) ≡ 4096 }
 {
     store.read_page(page, at, into);
 }

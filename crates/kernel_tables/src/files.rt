@@ -1,6 +1,6 @@
 //! The tables of inodes and of open descriptions.
 
-ghost use Rattle.std.specs.Prelude.{◌≡◌, ℕ, ◌<◌, slice_set};
+ghost use Rattle.std.specs.Prelude.{◌≡◌, ℕ, ◌<◌, length, slice_set};
 ghost use Rattle.kn_base.specs.Memory.{Memory};
 ghost use Rattle.kernel_tables.specs.Kernel.{Kernel, kernel_of, Sized, IsSized, inode_count, inode_at, description_count, description_at};
 
@@ -14,7 +14,8 @@ use kn_base::{PageId, Store};
 pub fn inode_entry<T: Store>(store: &T, number: u32) -> Row<Inode>
     requires sized { Sized (kernel_of (T.memory store.now)) }
     requires number { number < inode_count }
-    ensures { result ≡ inode_at (kernel_of (T.memory store.now)) number }
+    ensures entry { result ≡ inode_at (kernel_of (T.memory store.now)) number }
+    ensures rows { length (kernel_of (T.memory store.now)).inodes ≡ inode_count }
 {
     let mut bytes = [0; 32];
     let page = PageId(2 + number / 128);
@@ -40,7 +41,8 @@ pub fn set_inode_entry<T: Store>(store: &mut T, number: u32, entry: Row<Inode>)
 pub fn description_entry<T: Store>(store: &T, number: u16) -> Row<Description>
     requires sized { Sized (kernel_of (T.memory store.now)) }
     requires number { number < description_count }
-    ensures { result ≡ description_at (kernel_of (T.memory store.now)) number }
+    ensures entry { result ≡ description_at (kernel_of (T.memory store.now)) number }
+    ensures rows { length (kernel_of (T.memory store.now)).descriptions ≡ description_count }
 {
     let mut bytes = [0; 16];
     let page = PageId(10 + number as u32 / 256);

@@ -7,3 +7,4 @@ pub mod FixedLaws
 pub mod FreshLaws
 pub mod EmptyBank
 pub mod ChangeLaws
+pub mod HandLaws

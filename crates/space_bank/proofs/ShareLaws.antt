@@ -1,5 +1,5 @@
 -- What taking and giving an object leave of the share counts.
-use Rattle.std.proofs.Common.{◌≡◌, ◌≢◌, ℕ, suc, ◌+◌, ◌-◌, ◌*◌, ◌<◌, ◌≤◌, ◌==◌, cond, Bool, true, false, Option, Some, None, List, [], ◌∷◌, ◌++◌, length, take, drop, replicate, set, get_or, refl, ap, sym, subst, ◌∙◌, arith}
+use Rattle.std.proofs.Common.{◌≡◌, ◌≢◌, ℕ, suc, ◌+◌, ◌*◌, ◌<◌, ◌≤◌, ◌==◌, cond, Bool, true, false, Option, Some, None, List, [], ◌∷◌, ◌++◌, length, take, drop, replicate, set, get_or, refl, ap, sym, subst, ◌∙◌, arith}
 use Rattle.std.proofs.lemmas.Bool.{eqb-true, ne_eqb}
 use Rattle.std.proofs.lemmas.List.{get_or-drop, get_or-take, get_or-replicate, length-replicate, length-take, drop-drop}
 use Rattle.std.proofs.lemmas.List.Sums.{sum_by-cons, sum_by-append, sum_by-take-drop}
@@ -25,7 +25,7 @@ free_unshared (Taken owner count) h = let no : false ≡ true = h in cc
 free_unshared Fixed h = refl
 free_unshared Unspelled h = refl
 
-shared_once : {O : Type 0} (entry : Entry O) → IsTakenOnce entry → shares entry ≡ 1
+pub shared_once : {O : Type 0} (entry : Entry O) → IsTakenOnce entry → shares entry ≡ 1
 shared_once (Free next) h = absurd h
 shared_once (Taken owner count) h = h
 shared_once Fixed h = absurd h
@@ -174,7 +174,7 @@ nothing-counted test keys node blind nothing =
     ap (λ key. cond (spelled_and test key) 1 0) (get_or-take 16 (drop (16 * node) keys) k None low ∙ get_or-drop (16 * node) keys k None)
     ∙ ap (λ b. cond b 1 0) (blind (key_in keys node k) (nothing k low)))
 
-nothing-page : (id : ℕ) (key : Option Key) → NamesNothing key → spelled_and (key_names_page id) key ≡ false
+pub nothing-page : (id : ℕ) (key : Option Key) → NamesNothing key → spelled_and (key_names_page id) key ≡ false
 nothing-page id None h = refl
 nothing-page id (Some Null) h = refl
 nothing-page id (Some (Number body)) h = refl
@@ -187,7 +187,7 @@ nothing-page id (Some (Domain root)) h = absurd h
 nothing-page id (Some (Meter slot)) h = refl
 nothing-page id (Some (Service code)) h = refl
 
-nothing-node : (id : ℕ) (key : Option Key) → NamesNothing key → spelled_and (key_names_node id) key ≡ false
+pub nothing-node : (id : ℕ) (key : Option Key) → NamesNothing key → spelled_and (key_names_node id) key ≡ false
 nothing-node id None h = refl
 nothing-node id (Some Null) h = refl
 nothing-node id (Some (Number body)) h = refl
@@ -371,23 +371,3 @@ none_named-nulls keys node none = record {
   no_page = λ id. let e = nulls-counted (key_names_page id) keys (16 * node) refl in let all = none.no_page id in omega arith;
   no_node = λ id. let e = nulls-counted (key_names_node id) keys (16 * node) refl in let all = none.no_node id in omega arith;
 }
-
--- A page or node that is counted once, and that a key in hand names, stands at no place: it may be given back.
-pub page-in_hand_unnamed : (kernel : Kernel) (page : ℕ) (outside : Outside) (hand : List Key) (key : Key) → first_page kernel.size ≤ page → page < first_page kernel.size + kernel.size → IsTakenOnce (entry_at kernel.page_entries (page - first_page kernel.size)) → key_names_page page key ≡ true → Shares kernel outside (key ∷ hand) → page_places kernel.keys page ≡ 0
-page-in_hand_unnamed kernel page outside hand key low high once named counted =
-    let n = page - first_page kernel.size in
-    let number : first_page kernel.size + n ≡ page = omega arith in
-    let one = shared_once (entry_at kernel.page_entries n) once in
-    let agreed = counted.of_pages.agree n (omega arith) (omega arith) in
-    let e : 1 ≡ page_names kernel.keys outside (key ∷ hand) page = sym one ∙ agreed ∙ ap (page_names kernel.keys outside (key ∷ hand)) number in
-    let more = page-named_in_hand kernel.keys outside hand page key named in
-    omega arith
-
-pub node-in_hand_unnamed : (kernel : Kernel) (node : ℕ) (outside : Outside) (hand : List Key) (key : Key) → 15 ≤ node → node < kernel.nodes → IsTakenOnce (entry_at kernel.node_entries node) → key_names_node node key ≡ true → Shares kernel outside (key ∷ hand) → node_places kernel.keys node ≡ 0
-node-in_hand_unnamed kernel node outside hand key low high once named counted =
-    let zero_add : 0 + node ≡ node = omega arith in
-    let one = shared_once (entry_at kernel.node_entries node) once in
-    let agreed = counted.of_nodes.agree node low high in
-    let e : 1 ≡ node_names kernel.keys outside (key ∷ hand) node = sym one ∙ agreed ∙ ap (node_names kernel.keys outside (key ∷ hand)) zero_add in
-    let more = node-named_in_hand kernel.keys outside hand node key named in
-    omega arith

@@ -4,4 +4,5 @@ pub mod Bank
 pub mod Fixed
 pub mod Shares
 pub mod Changes
+pub mod Laws
 pub mod Setup

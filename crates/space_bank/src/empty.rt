@@ -6,7 +6,7 @@ ghost use Rattle.kn_base.specs.Memory.{Memory, zero_memory};
 ghost use Rattle.kernel_tables.specs.declared.entry.Entry.TheVariants.{Fixed};
 ghost use Rattle.kernel_tables.specs.Kernel.{Kernel, kernel_of, Sized, IsSized, first_page, node_count, zero_kernel};
 ghost use Rattle.kernel_tables.specs.declared.row.Row.TheVariants.{Used};
-ghost use Rattle.space_bank.specs.Fixed.{state_key, console_inode, empty_root, UnusedGood, FreshNodes, FreshFiles};
+ghost use Rattle.space_bank.specs.Fixed.{state_key, console_inode, empty_root, UnusedGood, FreshNodes, FixedNodes, FreshFiles};
 ghost use Rattle.space_bank.specs.FreeList.{following};
 ghost use Rattle.space_bank.specs.Setup.{free_entries, with_service_root, with_service_roots, empty_bank};
 ghost use Rattle.space_bank.specs.Bank.{BankGood};
@@ -172,6 +172,7 @@ pub fn setup<T: Store>(store: &mut T, pages: u32, quantum: u32)
     ensures shares { Shares (kernel_of (T.memory store.new)) nothing_outside [] }
     ensures unused { let new = kernel_of (T.memory store.new) in UnusedGood new.page_zero new.other_words }
     ensures nodes { FreshNodes (kernel_of (T.memory store.new)).keys }
+    ensures fixed { FixedNodes (kernel_of (T.memory store.new)).keys }
     ensures files { let new = kernel_of (T.memory store.new) in FreshFiles new.inodes new.descriptions }
     ensures unnamed { NoneNamed (kernel_of (T.memory store.new)).keys }
     ensures keeps { T.keeps store.old store.new }

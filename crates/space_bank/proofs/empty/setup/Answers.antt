@@ -2,10 +2,12 @@ use Rattle.std.proofs.Common.{[], ap, sym, subst, ◌∙◌}
 use Rattle.kernel_tables.specs.Kernel.{Kernel, kernel_of}
 use Rattle.kernel_tables.proofs.ZeroTables.{kernel_of-zeros}
 use Rattle.space_bank.specs.Bank.{BankGood}
-use Rattle.space_bank.specs.Fixed.{UnusedGood, FreshNodes, FreshFiles}
+use Rattle.space_bank.specs.Fixed.{UnusedGood, FreshNodes, FixedNodes, FreshFiles}
 use Rattle.space_bank.specs.Shares.{NoneNamed, Shares, nothing_outside}
 use Rattle.space_bank.proofs.FreshLaws.{unused_good-empty, fresh_nodes-empty, fresh_files-empty}
 use Rattle.space_bank.proofs.EmptyBank.{bank_good-empty, shares-empty, none_named-empty}
+use Rattle.space_bank.specs.Setup.{empty_bank}
+use Rattle.space_bank.proofs.FixedLaws.{fresh-fixed}
 use Rattle.space_bank.proofs.empty.setup.Goals as goal
 
 pub fill-requires-clause-zeros : goal.fill-requires-clause-zeros
@@ -38,3 +40,8 @@ returns-clause-unnamed g c =
 pub returns-clause-shares : goal.returns-clause-shares
 returns-clause-shares g c =
     subst (λ (k : Kernel). Shares k nothing_outside []) (sym c.fill.ensures.made) (shares-empty c.args.pages c.args.quantum)
+
+pub returns-clause-fixed : goal.returns-clause-fixed
+returns-clause-fixed g c =
+    subst (λ (k : Kernel). FixedNodes k.keys) (sym c.fill.ensures.made)
+    (fresh-fixed (empty_bank c.args.pages c.args.quantum).keys (fresh_nodes-empty c.args.pages c.args.quantum))

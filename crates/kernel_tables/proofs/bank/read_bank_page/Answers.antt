@@ -1,0 +1,7 @@
+use Rattle.kernel_tables.proofs.Sizes.{length-bank_page}
+use Rattle.kernel_tables.proofs.bank.read_bank_page.Goals as goal
+
+pub returns-clause-whole : goal.returns-clause-whole
+returns-clause-whole g c =
+    length-bank_page (g.T.Store.memory c.args.store.now) c.args.page.0 c.requires.sized c.requires.page
+    (g.met.T.Store.page_length c.args.store.now)
