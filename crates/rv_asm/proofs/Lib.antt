@@ -7,3 +7,7 @@ pub mod ProgramLaws
 pub mod ScanLaws
 pub mod SizeLaws
 pub mod FileLaws
+pub mod TextualLaws
+pub mod PlacedLaws
+pub mod LabelLaws
+pub mod OneFile

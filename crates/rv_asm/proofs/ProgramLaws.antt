@@ -1,8 +1,8 @@
 -- The second reading, line by line: what is made so far, and what the rest makes.
-use Rattle.std.proofs.Common.{◌≡◌, ℕ, ◌+◌, List, [], ◌∷◌, ◌++◌, Result, Ok, Err, refl, ap, sym, ◌∙◌, append_assoc, append-nil}
+use Rattle.std.proofs.Common.{◌≡◌, ℕ, ◌+◌, List, [], ◌∷◌, ◌++◌, Result, Ok, Err, refl, ap, append_assoc, append-nil}
 use Rattle.unix_model.specs.declared.instructions.Instr.{Instr}
 use Rattle.rv_asm.specs.declared.layout.Position.{Position}
-use Rattle.rv_asm.specs.Files.{SpellAll, Spells, word}
+use Rattle.rv_asm.specs.Files.{SpellAll, word}
 use Rattle.rv_asm.specs.Layout.{moved}
 use Rattle.rv_asm.specs.Programs.{Layout, Program, Refusal, ◌>>=◌, at_line, empty, followed_by, made_of, make_lines, statement_at}
 
@@ -24,7 +24,7 @@ front_further front piece (Err refusal) = refl
 pub line_made : (layout : Layout) (number : ℕ) (position : Position) (line : List ℕ) (lines : List (List ℕ)) (front piece : Program)
     → at_line number (made_of layout position (statement_at position.part line)) ≡ Ok piece
     → with_front front (make_lines layout number position (line ∷ lines))
-        ≡ with_front (followed_by front piece) (make_lines layout (number + 1) (moved (statement_at position.part line) position) lines)
+    ≡ with_front (followed_by front piece) (make_lines layout (number + 1) (moved (statement_at position.part line) position) lines)
 unfolding make_lines
 line_made layout number position line lines front piece made =
     rw made (front_further front piece (make_lines layout (number + 1) (moved (statement_at position.part line) position) lines))

@@ -1,5 +1,5 @@
 -- The first reading, line by line.
-use Rattle.std.proofs.Common.{◌≡◌, ℕ, ◌+◌, ◌<◌, ◌≤◌, List, ◌∷◌, Ok, Err, refl, arith}
+use Rattle.std.proofs.Common.{◌≡◌, ℕ, ◌+◌, ◌<◌, ◌≤◌, List, ◌∷◌, Ok, Err, refl}
 use Rattle.std.proofs.lemmas.Bool.{lt-ltb, le-ltb}
 use Rattle.rv_asm.specs.declared.fault.AsmKind.TheVariants.{TooLong}
 use Rattle.rv_asm.specs.Programs.{Refusal, Scan, at_line, scan_line, scan_lines}

@@ -1,5 +1,5 @@
 -- The ELF file of a program (System V gABI, ELF header and program header).
-use Rattle.std.specs.Prelude.{◌≡◌, ℕ, ◌+◌, ◌<◌, ◌^◌, List, [], ◌∷◌, ◌++◌, length, Some, Result, Ok, Err}
+use Rattle.std.specs.Prelude.{◌≡◌, ℕ, ◌+◌, ◌<◌, ◌^◌, List, [], ◌∷◌, ◌++◌, length, Some, Result, Err}
 use Rattle.std.specs.Int.{to_le_bytes, w16, w32}
 use Rattle.unix_model.specs.declared.instructions.Instr.{Instr}
 use Rattle.unix_model.specs.declared.instructions.Instr.TheVariants.{Fence}

@@ -1,5 +1,5 @@
 -- Where statements stand: the two parts, their bytes so far, and labels.
-use Rattle.std.specs.Prelude.{ℕ, ◌+◌, ◌-◌, ◌*◌, ◌/◌, ◌%◌, ◌^◌, List, length, Option, Some, None, bytes_eq, if◌then◌else◌}
+use Rattle.std.specs.Prelude.{ℕ, ◌+◌, ◌-◌, ◌*◌, ◌/◌, ◌%◌, ◌^◌, List, length, Option, Some, None, bytes_eq}
 use Rattle.std.specs.Map.{update}
 use Rattle.rv_asm.specs.declared.layout.Place.{Place}
 use Rattle.rv_asm.specs.declared.layout.Position.{Position}

@@ -9,3 +9,4 @@ pub mod Programs
 pub mod Files
 pub mod Views
 pub mod Answers
+pub mod Placement

@@ -1,5 +1,5 @@
 -- The parts of a line: its comment, its label, its statement's word and operands.
-use Rattle.std.specs.Prelude.{ℕ, ◌+◌, Bool, true, false, List, [], ◌∷◌, reverse, take, drop, position, Option, Some, None, option_map, is_none, ◌==◌, if◌then◌else◌}
+use Rattle.std.specs.Prelude.{ℕ, ◌+◌, Bool, false, List, [], ◌∷◌, reverse, take, drop, position, Option, Some, None, option_map, is_none, ◌==◌, if◌then◌else◌}
 use Rattle.rv_asm.specs.declared.lines.Quoting.{Quoting}
 use Rattle.rv_asm.specs.declared.lines.Quoting.TheVariants.{Outside, Inside, Escaped}
 use Rattle.rv_asm.specs.Letters.{is_blank, is_other}

@@ -1,5 +1,5 @@
 -- The operands: registers, numbers, an address with its offset, and text between quotes.
-use Rattle.std.specs.Prelude.{ℕ, ◌+◌, ◌-◌, ◌*◌, ◌<◌, ◌^◌, min, Bool, true, false, ◌&&◌, List, [], ◌∷◌, codes, length, take, drop, position, slice_index_or, Option, Some, None, option_map, ℤ, pos, neg_ℤ, bytes_eq, ◌==◌, nat_le, nat_lt, if◌then◌else◌}
+use Rattle.std.specs.Prelude.{ℕ, ◌+◌, ◌-◌, ◌*◌, min, Bool, true, false, ◌&&◌, List, [], ◌∷◌, codes, length, take, drop, position, slice_index_or, Option, Some, None, option_map, ℤ, pos, neg_ℤ, bytes_eq, ◌==◌, nat_le, nat_lt, if◌then◌else◌}
 use Rattle.unix_model.specs.Texts.{decimal_value}
 use Rattle.rv_asm.specs.Choices.{◌>>=◌}
 

@@ -1,5 +1,5 @@
 -- What a source means: its instructions and its data, or the first line that is refused.
-use Rattle.std.specs.Prelude.{ℕ, ◌+◌, ◌-◌, ◌*◌, ◌%◌, Bool, ◌&&◌, List, [], ◌∷◌, ◌++◌, length, replicate, Option, Some, None, option_map, is_some, Result, Ok, Err, ℤ, pos, neg_ℤ, ◌-ℤ◌, int_le, int_lt, nat_abs, ◌==◌, nat_lt, if◌then◌else◌}
+use Rattle.std.specs.Prelude.{ℕ, ◌+◌, ◌%◌, Bool, ◌&&◌, List, [], ◌∷◌, ◌++◌, length, replicate, Option, Some, None, option_map, is_some, Result, Ok, Err, ℤ, pos, neg_ℤ, ◌-ℤ◌, int_le, int_lt, nat_abs, ◌==◌, nat_lt, if◌then◌else◌}
 use Rattle.std.specs.Int.{to_le_bytes, w32}
 use Rattle.unix_model.specs.declared.instructions.Instr.{Instr}
 use Rattle.unix_model.specs.declared.instructions.Instr.TheVariants as instr
@@ -10,8 +10,8 @@ use Rattle.rv_asm.specs.declared.layout.Place.{Place}
 use Rattle.rv_asm.specs.declared.layout.Position.{Position}
 use Rattle.rv_asm.specs.declared.mnemonics.Part.{Part}
 use Rattle.rv_asm.specs.declared.mnemonics.Part.TheVariants.{Text, Data}
-use Rattle.rv_asm.specs.Layout.{Labels, address_of, bytes_in, moved, no_labels, padding, place_of, start, text_start, with_label}
-use Rattle.rv_asm.specs.Lines.{Parts, parts_of}
+use Rattle.rv_asm.specs.Layout.{Labels, address_of, moved, no_labels, padding, place_of, start, text_start, with_label}
+use Rattle.rv_asm.specs.Lines.{parts_of}
 use Rattle.rv_asm.specs.Letters.{is_label}
 use Rattle.rv_asm.specs.Statements.{Statement, Nothing, Switch, Single, Double, Jump, Branch, Address, Word, Byte, Ascii, Space, Align, fitting, halves, statement_of}
 
@@ -55,17 +55,17 @@ labelled labels place (Some name) =
 unfoldable pub scan_line : Scan → List ℕ → Result Scan AsmKind
 scan_line scan line =
     if nat_lt most_line_bytes (length line) then Err TooLong else do
-  labels ← labelled scan.labels (place_of scan.position) (parts_of line).label
-  statement ← or_refused Syntax (statement_of scan.position.part (parts_of line).statement)
-  Ok (record { position = moved statement scan.position; labels = labels })
+      labels ← labelled scan.labels (place_of scan.position) (parts_of line).label
+      statement ← or_refused Syntax (statement_of scan.position.part (parts_of line).statement)
+      Ok (record { position = moved statement scan.position; labels = labels })
 
 -- the lines from a number on
 unfoldable pub scan_lines : ℕ → Scan → List (List ℕ) → Result Scan Refusal
 scan_lines number scan [] = Ok scan
 scan_lines number scan (line ∷ lines) =
     if nat_lt most_lines number then Err (record { kind = TooLong; line = number }) else do
-  next ← at_line number (scan_line scan line)
-  scan_lines (number + 1) next lines
+      next ← at_line number (scan_line scan line)
+      scan_lines (number + 1) next lines
 
 -- ---- the second reading: instructions and data
 
@@ -167,8 +167,8 @@ made_in Text layout position statement = do
   if passes (moved statement position).text_bytes then Err OutOfRange else Ok (only_instructions instructions)
 made_in Data layout position statement =
     if passes (moved statement position).data_bytes then Err OutOfRange else do
-  bytes ← data_of position.data_bytes statement
-  Ok (only_bytes bytes)
+      bytes ← data_of position.data_bytes statement
+      Ok (only_bytes bytes)
 
 unfoldable pub made_of : Layout → Position → Statement → Result Program AsmKind
 made_of layout position statement = made_in position.part layout position statement

@@ -1,5 +1,5 @@
 -- The statements: what a line's text says, before any label has an address.
-use Rattle.std.specs.Prelude.{ℕ, ◌+◌, ◌-◌, ◌*◌, ◌/◌, ◌%◌, Bool, true, false, ◌&&◌, List, [], ◌∷◌, Option, Some, None, option_map, ℤ, pos, neg_ℤ, int_le, int_lt, nat_abs, if◌then◌else◌}
+use Rattle.std.specs.Prelude.{ℕ, ◌+◌, ◌-◌, ◌*◌, ◌/◌, ◌%◌, Bool, ◌&&◌, List, [], ◌∷◌, Option, Some, None, option_map, ℤ, pos, neg_ℤ, int_le, int_lt, nat_abs, if◌then◌else◌}
 use Rattle.unix_model.specs.declared.instructions.BranchOp.{BranchOp}
 use Rattle.unix_model.specs.declared.instructions.BranchOp.TheVariants.{Beq, Bne}
 use Rattle.unix_model.specs.declared.instructions.ImmOp.{ImmOp}

@@ -1,5 +1,5 @@
 -- What the code's statements stand for.
-use Rattle.std.specs.Prelude.{ℕ, ◌<◌, ◌≤◌, Bool, false, List, [], Option, Some, None, length, unwrap_or, option_map, IfSome, IsSome}
+use Rattle.std.specs.Prelude.{ℕ, ◌<◌, ◌≤◌, false, List, [], length, unwrap_or, option_map, IfSome, IsSome}
 use Rattle.rv_decode.specs.Fits.{Fits}
 use Rattle.rv_asm.specs.declared.lines.Parts.{Parts}
 use Rattle.rv_asm.specs.declared.statement.Statement.{Statement}

@@ -27,7 +27,13 @@ fn push_number(file: &mut Vec<u8>, number: u32) -> Result<(), AllocError>
 }
 
 /// Appends the header of a part.
-fn push_header(file: &mut Vec<u8>, offset: u32, address: u32, bytes: u32, flags: u32) -> Result<(), AllocError>
+fn push_header(
+    file: &mut Vec<u8>,
+    offset: u32,
+    address: u32,
+    bytes: u32,
+    flags: u32,
+) -> Result<(), AllocError>
     ensures { OnOk result (file.new.items ≡ file.old.items ++ model.program_header offset address bytes flags) }
 {
     push_number(file, 1)?;
@@ -60,7 +66,13 @@ pub fn file_of(alloc: Global, program: &Program) -> Result<Vec<u8>, AllocError>
     let mut file = Vec::new(alloc);
     push_file_header(&mut file)?;
     push_header(&mut file, HEAD_BYTES, TEXT_START, text_bytes, 5)?;
-    push_header(&mut file, HEAD_BYTES + text_bytes, data_address, data_bytes, 6)?;
+    push_header(
+        &mut file,
+        HEAD_BYTES + text_bytes,
+        data_address,
+        data_bytes,
+        6,
+    )?;
     file.extend_from_slice(program.text.as_slice())?;
     file.extend_from_slice(program.bytes.as_slice())?;
     Ok(file)

@@ -1,6 +1,6 @@
 //! The instructions of a statement, once labels have addresses.
 
-ghost use Rattle.std.specs.Prelude.{◌≡◌, ◌<◌, ◌≤◌, ◌^◌, ℤ, pos,  option_map, IfSome, IfOk};
+ghost use Rattle.std.specs.Prelude.{◌≡◌, ◌<◌, ◌≤◌, ◌^◌, ℤ, pos, option_map, IfSome, IfOk};
 ghost use Rattle.rv_decode.specs.Fits.{IsEven, IsSigned};
 ghost use Rattle.rv_asm.specs.Answers.{AreReady, instructions_view, layout_view, places_of, result_view};
 ghost use Rattle.rv_asm.specs.Programs as model;
@@ -79,7 +79,11 @@ impl<'a> Layout<'a> {
 impl<'a> Layout<'a> {
     /// The instructions of a statement at an address.
     #[tactic(auto, unfolding(crate::specs::Programs::instructions_of))]
-    pub fn instructions(&self, address: u128, statement: &Statement<'_>) -> Result<Instructions, AsmKind>
+    pub fn instructions(
+        &self,
+        address: u128,
+        statement: &Statement<'_>,
+    ) -> Result<Instructions, AsmKind>
         requires ready { IsReady statement.now }
         requires address_fits { address ≤ 2 ^ 66 }
         ensures value { result_view instructions_view result ≡ model.instructions_of (layout_view self.now) address (statement_view statement.now) }
@@ -90,12 +94,18 @@ impl<'a> Layout<'a> {
             Statement::Double(Some((first, second))) => Ok(Instructions::Two(first, second)),
             Statement::Single(None) | Statement::Double(None) => Err(AsmKind::OutOfRange),
             Statement::Jump { rd, label } => self.jump(address, rd, label),
-            Statement::Branch { op, rs1, rs2, label } => self.branch(address, op, rs1, rs2, label),
+            Statement::Branch {
+                op,
+                rs1,
+                rs2,
+                label,
+            } => self.branch(address, op, rs1, rs2, label),
             Statement::Address { rd, label } => self.address(rd, label),
             _ => Ok(Instructions::NoneOf),
         }
     }
 
+    /// A jump to a label.
     #[tactic(auto, unfolding(crate::specs::Programs::instructions_of))]
     fn jump(&self, address: u128, rd: u8, label: &[u8]) -> Result<Instructions, AsmKind>
         requires register { rd < 32 }
@@ -113,8 +123,16 @@ impl<'a> Layout<'a> {
         }
     }
 
+    /// A branch to a label.
     #[tactic(auto, unfolding(crate::specs::Programs::instructions_of))]
-    fn branch(&self, address: u128, op: BranchOp, rs1: u8, rs2: u8, label: &[u8]) -> Result<Instructions, AsmKind>
+    fn branch(
+        &self,
+        address: u128,
+        op: BranchOp,
+        rs1: u8,
+        rs2: u8,
+        label: &[u8],
+    ) -> Result<Instructions, AsmKind>
         requires first { rs1 < 32 }
         requires second { rs2 < 32 }
         requires address_fits { address ≤ 2 ^ 66 }
@@ -131,6 +149,7 @@ impl<'a> Layout<'a> {
         }
     }
 
+    /// A label's address, in two instructions.
     #[tactic(auto, unfolding(crate::specs::Programs::instructions_of))]
     fn address(&self, rd: u8, label: &[u8]) -> Result<Instructions, AsmKind>
         requires { rd < 32 }

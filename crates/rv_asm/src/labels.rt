@@ -19,7 +19,9 @@ impl<'a> Labels<'a> {
     pub fn new(alloc: Global) -> Labels<'a>
         ensures { places_of result.places ≡ no_labels }
     {
-        Labels { places: IndexMap::new(alloc) }
+        Labels {
+            places: IndexMap::new(alloc),
+        }
     }
 
     /// The place of a label.

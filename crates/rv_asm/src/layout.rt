@@ -86,7 +86,11 @@ impl Position {
     pub fn start() -> Position
         ensures { result ≡ model.start }
     {
-        Position { part: Part::Text, text_bytes: 0, data_bytes: 0 }
+        Position {
+            part: Part::Text,
+            text_bytes: 0,
+            data_bytes: 0,
+        }
     }
 
     /// The bytes of a part.
@@ -103,7 +107,10 @@ impl Position {
     pub fn place(&self) -> Place
         ensures { result ≡ model.place_of self.now }
     {
-        Place { part: self.part, offset: self.bytes_of(self.part) }
+        Place {
+            part: self.part,
+            offset: self.bytes_of(self.part),
+        }
     }
 }
 
@@ -124,8 +131,16 @@ impl Position {
             _ => self.part,
         };
         match self.part {
-            Part::Text => Position { part, text_bytes: self.text_bytes + size, data_bytes: self.data_bytes },
-            Part::Data => Position { part, text_bytes: self.text_bytes, data_bytes: self.data_bytes + size },
+            Part::Text => Position {
+                part,
+                text_bytes: self.text_bytes + size,
+                data_bytes: self.data_bytes,
+            },
+            Part::Data => Position {
+                part,
+                text_bytes: self.text_bytes,
+                data_bytes: self.data_bytes + size,
+            },
         }
     }
 }

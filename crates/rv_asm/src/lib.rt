@@ -14,6 +14,8 @@ mod labels;
 mod laws;
 mod layout;
 mod letters;
+#[cfg(test)]
+mod line_tests;
 mod lines;
 mod mnemonics;
 mod operands;
@@ -24,8 +26,10 @@ mod ranges;
 mod reading_tests;
 mod scan;
 mod statement;
+#[cfg(test)]
+mod tests;
 mod text_statements;
 
 pub use assembler::assemble;
 pub use fault::{AsmFault, AsmKind};
-pub use laws::{halves_law, mnemonics_law, names_law};
+pub use laws::{halves_law, mnemonics_law, names_law, one_file_law, placed_law};

@@ -69,7 +69,12 @@ fn push_zeros(bytes: &mut Vec<u8>, count: u64) -> Result<(), AllocError>
 
 /// Appends the bytes of a statement behind so many.
 #[tactic(auto, unfolding(crate::specs::Programs::data_of))]
-fn push_data(bytes: &mut Vec<u8>, so_far: u64, number: u32, statement: &Statement<'_>) -> Result<(), AsmFault>
+fn push_data(
+    bytes: &mut Vec<u8>,
+    so_far: u64,
+    number: u32,
+    statement: &Statement<'_>,
+) -> Result<(), AsmFault>
     requires { IsReady statement.now }
     ensures { PutsData result bytes.old.items bytes.new.items (model.at_line number (model.data_of so_far (statement_view statement.now))) }
 {
@@ -82,8 +87,14 @@ fn push_data(bytes: &mut Vec<u8>, so_far: u64, number: u32, statement: &Statemen
         Statement::Ascii(behind) => push_text(behind, bytes),
         Statement::Space(Some(count)) => push_zeros(bytes, count),
         Statement::Align(Some(exponent)) => push_zeros(bytes, padding(exponent, so_far)),
-        Statement::Word(None) | Statement::Byte(None) | Statement::Space(None) | Statement::Align(None) => {
-            return Err(AsmFault::At { kind: AsmKind::OutOfRange, line: number });
+        Statement::Word(None)
+        | Statement::Byte(None)
+        | Statement::Space(None)
+        | Statement::Align(None) => {
+            return Err(AsmFault::At {
+                kind: AsmKind::OutOfRange,
+                line: number,
+            });
         }
         _ => Ok(()),
     };
@@ -96,7 +107,13 @@ fn push_data(bytes: &mut Vec<u8>, so_far: u64, number: u32, statement: &Statemen
 impl Program {
     /// Adds what one statement makes at a position, and gives the position behind it.
     #[tactic(auto, unfolding(crate::specs::Programs::made_of, crate::specs::Layout::text_start))]
-    fn add(&mut self, layout: &Layout<'_>, number: u32, position: Position, statement: &Statement<'_>) -> Result<Position, AsmFault>
+    fn add(
+        &mut self,
+        layout: &Layout<'_>,
+        number: u32,
+        position: Position,
+        statement: &Statement<'_>,
+    ) -> Result<Position, AsmFault>
         requires ready { IsReady statement.now }
         requires text_fits { position.text_bytes ≤ 1048576 }
         requires data_fits { position.data_bytes ≤ 1048576 }
@@ -116,7 +133,10 @@ impl Program {
                     Err(kind) => return Err(AsmFault::At { kind, line: number }),
                 };
                 if MOST_PART_BYTES < next.text_bytes {
-                    return Err(AsmFault::At { kind: AsmKind::OutOfRange, line: number });
+                    return Err(AsmFault::At {
+                        kind: AsmKind::OutOfRange,
+                        line: number,
+                    });
                 }
                 match push_words(&mut self.text, instructions) {
                     Ok(()) => Ok(next),
@@ -125,7 +145,10 @@ impl Program {
             }
             Part::Data => {
                 if MOST_PART_BYTES < next.data_bytes {
-                    return Err(AsmFault::At { kind: AsmKind::OutOfRange, line: number });
+                    return Err(AsmFault::At {
+                        kind: AsmKind::OutOfRange,
+                        line: number,
+                    });
                 }
                 match push_data(&mut self.bytes, position.data_bytes, number, statement) {
                     Ok(()) => Ok(next),
@@ -152,7 +175,11 @@ fn statement_at<'a>(part: Part, line: &'a [u8]) -> Statement<'a>
 }
 
 /// What the lines of a source make, or the first that is refused for a label or for a number.
-pub fn second_reading(alloc: Global, source: &[u8], layout: &Layout<'_>) -> Result<Program, AsmFault>
+pub fn second_reading(
+    alloc: Global,
+    source: &[u8],
+    layout: &Layout<'_>,
+) -> Result<Program, AsmFault>
     requires { length (lines_of source.now) ≤ 100000 }
     ensures made { IfOk result (λ program. Grows [] program.text.items [] program.bytes.items (model.make_lines (layout_view layout.now) 1 start (lines_of source.now))) }
     ensures refused { IfErr result (λ fault. Tells fault (model.make_lines (layout_view layout.now) 1 start (lines_of source.now))) }

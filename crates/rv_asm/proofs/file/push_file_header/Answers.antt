@@ -1,4 +1,4 @@
-use Rattle.std.proofs.Common.{rules, refl, ◌≡◌, ◌∙◌, ap, ◌++◌}
+use Rattle.std.proofs.Common.{rules}
 use Rattle.rv_asm.specs.Files.{file_header}
 use Rattle.rv_asm.specs.Layout.{text_start}
 use Rattle.rv_asm.proofs.file.push_file_header.Goals as goal

@@ -1,4 +1,4 @@
-use Rattle.std.proofs.Common.{◌+◌, ◌*◌, ◌∙◌, ap, min, arith}
+use Rattle.std.proofs.Common.{◌+◌, ◌*◌, ◌∙◌, ap, min}
 use Rattle.rv_asm.proofs.OperandLaws.{cut-digit, hex_after-digit}
 use Rattle.rv_asm.proofs.operands.hexadecimal.Goals as goal
 

@@ -1,4 +1,4 @@
-use Rattle.std.proofs.Common.{◌≡◌, ℕ, ◌+◌, ◌*◌, ◌≤◌, length}
+use Rattle.std.proofs.Common.{◌≡◌, ◌+◌, ◌≤◌, length}
 use Rattle.unix_model.specs.Texts.{lines_of}
 use Rattle.rv_asm.specs.Answers.{layout_view}
 use Rattle.rv_asm.specs.Files.{SpellAll}
