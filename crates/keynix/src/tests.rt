@@ -1,5 +1,7 @@
 //! Whole runs of the program over memory: its words, its input, its output and its notes.
 
+mod assembling;
+
 use crate::ending::Ending;
 use crate::finish::Status;
 use crate::once::once;
