@@ -1,4 +1,4 @@
-# Writes a line and exits with 7, as examples/hello.hex does. To assemble and to run it:
+# Writes a line and exits with 7. To assemble and to run it:
 #   ./keynix d asm < examples/hello.s > hello.elf
 #   ./keynix d once < hello.elf
 
