@@ -1,11 +1,8 @@
-# Writes the lines 1 to 9, and exits with 0. Assembled and linked by LLVM's tools:
-#   clang --target=riscv32 -march=rv32i -mabi=ilp32 -c examples/count.s -o count.o
-#   ld.lld -N -Ttext=0x10000 count.o -o count.elf
-        .globl _start
-_start: addi sp, sp, -16
-        li   s0, '1'
-        li   s1, '9'
-        li   t0, '\n'
+# Writes the lines 1 to 9, and exits with 0.
+        li   s0, 49             # the digit 1
+        li   s1, 57             # the digit 9
+        addi sp, sp, -16
+        li   t0, 10             # a line feed
         sb   t0, 1(sp)
 next:   sb   s0, 0(sp)
         li   a0, 1              # the console's descriptor
@@ -14,7 +11,7 @@ next:   sb   s0, 0(sp)
         li   a7, 12             # write
         ecall
         addi s0, s0, 1
-        bleu s0, s1, next
+        bgeu s1, s0, next
         li   a0, 0
         li   a7, 1              # exit
         ecall
