@@ -1,7 +1,9 @@
 //! Lines of each form, and lines of none.
 //!
 //! Words of instructions and bytes of data are what LLVM's assembler (`llvm-mc` 14.0.6, `--arch=riscv32 --mattr=-c,-relax`)
-//! makes of the same lines, but where a comment says that they are read otherwise there.
+//! makes of the same lines, but where a comment says that they are read otherwise there. The GNU assembler
+//! (`riscv64-unknown-elf-as` 2.40, `-march=rv32i -mno-relax`, linked at 0x10000) makes the same words but for `call`, which
+//! is two instructions there, `la`, which counts from the instruction there, and `li` where one instruction is enough there.
 
 use crate::fault::AsmKind;
 use crate::tests::{check_parts, check_refused, lines};

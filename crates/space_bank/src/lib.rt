@@ -1,4 +1,5 @@
-//! The space bank: which pages and nodes of the store are free, and how many pages are promised.
+//! The space bank: which pages and nodes of the store are free, how often what is taken is named, how many pages are
+//! promised, and the bank of a new machine.
 #![tactic(auto)]
 
 mod contents;
