@@ -15,7 +15,7 @@ use Rattle.forest.proofs.CountLaws.{same_object-same, names-true, counted_one}
 use Rattle.forest.proofs.WalkLaws.{step}
 use Rattle.forest.proofs.OwnLaws.{owned_object}
 use Rattle.forest.proofs.ExactLaws.{bit, not_named, nobody_counted, with_object-here}
-use Rattle.forest.proofs.CopyLaws.{free_unnamed}
+use Rattle.forest.proofs.CopyLaws.{free_unnamed, none_below}
 use Rattle.forest.proofs.ReleaseLaws.{some_not_none, is_or_not}
 use Rattle.forest.proofs.ExactLaws.{count_same, namings-written, spaces_back}
 use Rattle.forest.proofs.MapLaws.{at-filled, at-filled-other}
@@ -36,11 +36,6 @@ sum_changed f g (suc n) p less h = ⊎_elim
     rw (at_p, e) (omega arith))
     (cases_lt p n)
 
-no_count : (f : ℕ → Bool) (n : ℕ) → ((q : ℕ) → q < n → f q ≡ false) → count_below f n ≡ 0
-unfolding count_below
-no_count f zero h = refl
-no_count f (suc n) h = let e = no_count f n (λ q less. h q (omega arith)) in rw (h n (omega arith)) (omega arith)
-
 -- a table of which the keys of one node have changed
 node_changed : (f g : ℕ → Bool) (nodes node : ℕ) → node < nodes → ((p : ℕ) → p / 16 ≢ node → f p ≡ g p)
     → count_below f (16 * nodes) + count_below (λ d. g (16 * node + d)) 16 ≡ count_below g (16 * nodes) + count_below (λ d. f (16 * node + d)) 16
@@ -59,7 +54,7 @@ namings-filled forest content node object within none =
     let changed = node_changed (λ p. names object (at (filled forest.keys node content) p)) (λ p. names object (at forest.keys p)) forest.nodes node within
     (λ p apart. ap (names object) (at-filled-other forest.keys content node p apart)) in
     let before : count_below (λ d. names object (at forest.keys (16 * node + d))) 16 ≡ 0 =
-    no_count (λ d. names object (at forest.keys (16 * node + d))) 16 (λ d below. not_named (at forest.keys (place_of node d)) object (none d below)) in
+    none_below (λ d. names object (at forest.keys (16 * node + d))) 16 (λ d below. not_named (at forest.keys (place_of node d)) object (none d below)) in
     let after : count_below (λ d. names object (at (filled forest.keys node content) (16 * node + d))) 16 ≡ count_below (λ digit. names object (content digit)) 16 =
     count_same (λ d. names object (at (filled forest.keys node content) (16 * node + d))) (λ digit. names object (content digit)) 16
     (λ d below. ap (names object) (at-filled forest.keys content node d below)) in
@@ -256,7 +251,7 @@ module _ (forest : Forest) (outside : Object → ℕ) (hand : List Key) (place f
   fresh_unnamed = ap bit (not_named (at forest.keys place) (NodeObject fresh) (nobody place))
 
   fresh_content : count_below (λ digit. names (NodeObject fresh) (key_below forest.keys (at forest.keys place) digit)) 16 ≡ 0
-  fresh_content = no_count (λ digit. names (NodeObject fresh) (key_below forest.keys (at forest.keys place) digit)) 16
+  fresh_content = none_below (λ digit. names (NodeObject fresh) (key_below forest.keys (at forest.keys place) digit)) 16
       (λ digit below. not_named (key_below forest.keys (at forest.keys place) digit) (NodeObject fresh)
       (λ h. let s = step forest.keys (at forest.keys place) digit (NodeObject fresh) h in nobody (place_of s.node digit) s.here))
 

@@ -51,7 +51,7 @@ once forest key h =
 pub counted_once : (forest : Forest) (key : Key) (object : Object) → named key ≡ Some object → forest.count object ≡ 1 → CountedOnce forest key
 counted_once forest key object e h = rw e h
 
-none_below : (f : ℕ → Bool) (n : ℕ) → ((q : ℕ) → q < n → f q ≡ false) → count_below f n ≡ 0
+pub none_below : (f : ℕ → Bool) (n : ℕ) → ((q : ℕ) → q < n → f q ≡ false) → count_below f n ≡ 0
 unfolding count_below
 none_below f zero h = refl
 none_below f (suc n) h = let e = none_below f n (λ q less. h q (omega arith)) in rw (h n (omega arith)) (omega arith)

@@ -3,6 +3,7 @@ use Rattle.std.proofs.Common.{◌≡◌, ◌<◌, ◌≤◌, ◌+◌, ◌*◌, �
 use Rattle.std.specs.Option.{is_some}
 use Rattle.kn_base.specs.declared.key.Key.{Key}
 use Rattle.unix_model.specs.Tables.{count_below, sum_below}
+use Rattle.unix_model.proofs.TableLaws.{count_below-zero}
 use Rattle.forest.specs.Walks.{key_below, key_along, space_key, digits, page_way, mapping_of, map_of}
 use Rattle.forest.specs.Mapped.{mapped, pages_below}
 use Rattle.forest.specs.Laws.{MappedIsSum}
@@ -22,13 +23,9 @@ count_append f a (suc n) =
     let rest = count_append f a n in
     rw e (omega arith)
 
-count_none : (f : ℕ → Bool) → count_below f 0 ≡ 0
-unfolding count_below
-count_none f = refl
-
 pub count_blocks : (f : ℕ → Bool) (length k : ℕ) → count_below f (k * length) ≡ sum_below (λ top. count_below (λ r. f (top * length + r)) length) k
 unfolding sum_below
-count_blocks f length zero = let e : 0 * length ≡ 0 = omega arith in rw e (count_none f)
+count_blocks f length zero = let e : 0 * length ≡ 0 = omega arith in rw e (count_below-zero f)
 count_blocks f length (suc k) =
     let e : suc k * length ≡ k * length + length = omega arith in
     rw e (count_append f (k * length) length ∙ ap (λ n. n + count_below (λ r. f (k * length + r)) length) (count_blocks f length k))

@@ -1,7 +1,7 @@
 -- An empty bank keeps all that a bank keeps.
-use Rattle.std.proofs.Common.{◌≡◌, ℕ, zero, suc, ◌+◌, ◌-◌, ◌*◌, ◌%◌, ◌<◌, ◌≤◌, ◌&&◌, Bool, true, false, nat_lt, Option, Some, None, List, [], ◌++◌, map, length, set, replicate, refl, ap, sym, subst, ◌∙◌, ⊎_elim, arith, rules}
+use Rattle.std.proofs.Common.{◌≡◌, ℕ, zero, suc, ◌+◌, ◌-◌, ◌*◌, ◌%◌, ◌<◌, ◌≤◌, ◌&&◌, true, false, nat_lt, Option, Some, None, List, [], ◌++◌, map, length, set, replicate, refl, ap, sym, subst, ◌∙◌, ⊎_elim, arith, rules}
 use Rattle.std.proofs.Math.Bool.{and-false}
-use Rattle.std.proofs.lemmas.Bool.{cases_lt, ltb-true}
+use Rattle.std.proofs.lemmas.Bool.{and_parts, cases_lt, ltb-true}
 use Rattle.std.proofs.lemmas.List.{places, same_lists, length-append, length-replicate, length-set, get_or-replicate, get_or_append_left, get_or-append_right, get_or_past, get_or-set_other}
 use Rattle.std.proofs.lemmas.List.FromFn.{length-map-range_with_len, get_or-map-range_with_len}
 use Rattle.std.proofs.lemmas.List.Folds.{sum_by-replicate}
@@ -155,13 +155,9 @@ entries_good-empty O base count fixed some few =
       unused = λ n past row. empty-behind O base count fixed n most past (omega arith);
     }
 
-and_left : (a b : Bool) → (a && b) ≡ true → a ≡ true
-and_left true b h = refl
-and_left false b h = h
-
 free_inside : {O : Type 0} (count : ℕ) (entries : List (Entry O)) (n : ℕ) → is_free_at count entries n ≡ true → n < count
 free_inside count entries n free =
-    ltb-true n count (and_left (nat_lt n count) (is_free (entry_at entries n)) free)
+    ltb-true n count (and_parts (nat_lt n count) (is_free (entry_at entries n)) free).0
 
 pages_good-empty : (size : ℕ) → 64 ≤ size → PagesGood size (empty_entries (first_page size) size 0) (first_page size) 0 0 (replicate size zero_page)
 pages_good-empty size some =

@@ -1,30 +1,14 @@
 -- What taking and giving an object leave of a free list.
-use Rattle.std.proofs.Common.{◌≡◌, ◌≢◌, ℕ, ◌+◌, ◌-◌, ◌<◌, ◌≤◌, ◌==◌, ◌&&◌, ◌||◌, Bool, true, false, nat_lt, List, [], ◌∷◌, length, set, refl, ap, sym, subst, ◌∙◌, ⊎_elim, arith}
+use Rattle.std.proofs.Common.{◌≡◌, ◌≢◌, ℕ, ◌+◌, ◌-◌, ◌<◌, ◌≤◌, ◌==◌, ◌&&◌, ◌||◌, true, false, nat_lt, List, [], ◌∷◌, length, set, refl, ap, sym, subst, ◌∙◌, ⊎_elim, arith}
 use Rattle.std.proofs.Math.Bool.{and-false}
 use Rattle.std.proofs.lemmas.List.{get_or-set_same, get_or-set_other, get_or_past}
 use Rattle.std.proofs.lemmas.List.Sums.{sum_by-set, sum_by-cons}
-use Rattle.std.proofs.lemmas.Bool.{cases_eq, cases_lt, eq-eqb, ne_eqb, eqb-false, lt-ltb, ltb-true}
+use Rattle.std.proofs.lemmas.Bool.{and_parts, cases_eq, cases_lt, eq-eqb, ne_eqb, eqb-false, lt-ltb, ltb-true, or_parts}
 use Rattle.std.specs.List.{sum_by}
 use Rattle.kernel_tables.specs.declared.entry.Entry.{Entry}
 use Rattle.kernel_tables.specs.declared.entry.Entry.TheVariants.{Free, Taken, Fixed, Unspelled}
 use Rattle.space_bank.specs.FreeList.{entry_at, is_free, next_of, is_free_at, taken_one, elem, first_of, Threads, IsFreeList, taken_count}
 use Rattle.space_bank.specs.Bank.{NoneFree, IsFirstFree}
-
-or_left : (a b : Bool) → (a || b) ≡ false → a ≡ false
-or_left true b h = h
-or_left false b h = refl
-
-or_right : (a b : Bool) → (a || b) ≡ false → b ≡ false
-or_right true b h = let no : true ≡ false = h in cc
-or_right false b h = h
-
-and_left : (a b : Bool) → (a && b) ≡ true → a ≡ true
-and_left true b h = refl
-and_left false b h = h
-
-and_right : (a b : Bool) → (a && b) ≡ true → b ≡ true
-and_right true b h = h
-and_right false b h = let no : false ≡ true = h in cc
 
 -- an entry that is spelled is there
 pub entry_inside : {O : Type 0} (entries : List (Entry O)) (n : ℕ) → entry_at entries n ≢ Unspelled → n < length entries
@@ -41,11 +25,11 @@ pub threads-set : {O : Type 0} (entries : List (Entry O)) (base : ℕ) (places :
 unfolding Threads elem first_of
 threads-set entries base [] n entry out t = tt
 threads-set entries base (place ∷ places) n entry out t =
-    let other : place ≢ n = eqb-false place n (or_left (place == n) (elem n places) out) in (
+    let other : place ≢ n = eqb-false place n (or_parts (place == n) (elem n places) out).0 in (
       get_or-set_other entries n place entry Unspelled other ∙ t.0,
       t.1,
       t.2,
-      threads-set entries base places n entry (or_right (place == n) (elem n places) out) t.3,
+      threads-set entries base places n entry (or_parts (place == n) (elem n places) out).1 t.3,
     )
 
 -- the first object is taken
@@ -134,9 +118,9 @@ places_first entries base count first (place ∷ places) some begins t exact =
     subst (λ (m : ℕ). IsFirstFree entries base count first m) same
     (record {
       number = begins;
-      inside = ltb-true place count (and_left (nat_lt place count) (is_free (entry_at entries place)) free);
+      inside = ltb-true place count (and_parts (nat_lt place count) (is_free (entry_at entries place)) free).0;
       some = t.1;
-      free = and_right (nat_lt place count) (is_free (entry_at entries place)) free;
+      free = (and_parts (nat_lt place count) (is_free (entry_at entries place)) free).1;
     })
 
 pub free_list-first : {O : Type 0} (entries : List (Entry O)) (base count first : ℕ) → 0 < first → IsFreeList entries base count first → IsFirstFree entries base count first (first - base)
