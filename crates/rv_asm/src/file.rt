@@ -19,6 +19,11 @@ const FILE_HEADER: [u8; 52] = [
     0, 0, 0, 0, 0, 0, // e_shentsize, e_shnum, e_shstrndx
 ];
 
+/// The flags of a part that is read and executed, and of one that is read and written: X 1, W 2, R 4.
+const READ_EXECUTE: u32 = 5;
+
+const READ_WRITE: u32 = 6;
+
 /// Appends a number of four bytes.
 fn push_number(file: &mut Vec<u8>, number: u32) -> Result<(), AllocError>
     ensures { OnOk result (file.new.items ≡ file.old.items ++ model.word number) }
@@ -26,7 +31,7 @@ fn push_number(file: &mut Vec<u8>, number: u32) -> Result<(), AllocError>
     file.extend_from_slice(&number.to_le_bytes())
 }
 
-/// Appends the header of a part.
+/// Appends the header of a part that stands at `offset` in the file and goes to `address`.
 fn push_header(
     file: &mut Vec<u8>,
     offset: u32,
@@ -65,13 +70,13 @@ pub fn file_of(alloc: Global, program: &Program) -> Result<Vec<u8>, AllocError>
     let data_address = data_start(u64::from(text_bytes)) as u32;
     let mut file = Vec::new(alloc);
     push_file_header(&mut file)?;
-    push_header(&mut file, HEAD_BYTES, TEXT_START, text_bytes, 5)?;
+    push_header(&mut file, HEAD_BYTES, TEXT_START, text_bytes, READ_EXECUTE)?;
     push_header(
         &mut file,
         HEAD_BYTES + text_bytes,
         data_address,
         data_bytes,
-        6,
+        READ_WRITE,
     )?;
     file.extend_from_slice(program.text.as_slice())?;
     file.extend_from_slice(program.bytes.as_slice())?;

@@ -28,7 +28,9 @@ const MOST_PART_BYTES: u64 = 1_048_576;
 /// The parts, as they are in the file.
 #[derive(Drop)]
 pub struct Program {
+    /// The words of the instructions, each with its lowest byte first.
     pub text: Vec<u8>,
+    /// The data.
     pub bytes: Vec<u8>,
 }
 
