@@ -11,7 +11,8 @@ use Rattle.unix_model.specs.declared.elf.Load.{Load}
 use Rattle.unix_model.specs.declared.elf.ElfFault.{ElfFault}
 use Rattle.unix_model.specs.declared.elf.ElfFault.TheVariants.{NotStatic}
 use Rattle.unix_model.specs.declared.elf.ProgramHeader.{ProgramHeader}
-use Rattle.unix_model.specs.Elf.{load_of, load_tests, overlaps, loads_end, loads_with, then_with, loads_of_first, program_header, first_of_tests}
+use Rattle.unix_model.specs.Limits.{loads_end}
+use Rattle.unix_model.specs.Elf.{segment_of, load_tests, overlaps, loads_with, then_with, loads_of_first, program_header, first_of_tests}
 use Rattle.elf_read.proofs.TestLemmas.{none_holds, first_of_tests-none, NoneHolds}
 use Rattle.elf_read.specs.Accepted.{IsLoadable, AreLoadable}
 
@@ -83,15 +84,15 @@ pub not_empty : (kind memory_bytes : ℕ) → (not (kind == 1) || (memory_bytes 
 not_empty kind memory_bytes h = grind (arith, nat_tests)
 
 pub AreLoadable-loads_with : (file_length : ℕ) (header : ProgramHeader) (loads longer : List Load) → loads_with file_length header loads ≡ Ok longer → AreLoadable file_length loads → AreLoadable file_length longer
-unfolding loads_with load_of
+unfolding loads_with segment_of
 AreLoadable-loads_with file_length header loads longer is are =
     let passed = not (header.kind == 1) || (header.memory_bytes == 0) in
-    let tested = first_of_tests (load_tests file_length (load_of header) loads) (Ok (loads ++ load_of header ∷ [])) in
+    let tested = first_of_tests (load_tests file_length (segment_of header) loads) (Ok (loads ++ segment_of header ∷ [])) in
     elim ((header.kind == 2) || (header.kind == 3)) as (λ b. cond b (Err NotStatic) (cond passed (Ok loads) tested) ≡ Ok longer → AreLoadable file_length longer) [
       | true ↦ λ h. cc
       | false ↦ λ h. elim passed as (λ b. passed ≡ b → cond b (Ok loads) tested ≡ Ok longer → AreLoadable file_length longer) [
         | true ↦ λ _ e. let same_loads : loads ≡ longer = cc in subst (λ l. AreLoadable file_length l) same_loads are
-        | false ↦ λ p e. AreLoadable-with_tests file_length (load_of header) loads longer (not_empty header.kind header.memory_bytes p) e are
+        | false ↦ λ p e. AreLoadable-with_tests file_length (segment_of header) loads longer (not_empty header.kind header.memory_bytes p) e are
       ] refl h
     ] is
 

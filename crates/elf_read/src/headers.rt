@@ -1,7 +1,7 @@
 //! The headers of an ELF file, read by the places of their fields.
 
 ghost use Rattle.std.specs.Prelude.{◌≡◌, ◌+◌, ◌≤◌, length};
-ghost use Rattle.unix_model.specs.Elf.{half_at, word_at, has_magic, file_header, program_header};
+ghost use Rattle.unix_model.specs.Elf.{header_half, header_word, has_magic, file_header, program_header};
 
 use crate::file_bytes::FileBytes;
 use byteorder::{ByteOrder, LittleEndian};
@@ -10,7 +10,7 @@ use unix_model::{FileHeader, ProgramHeader};
 /// The number in 2 bytes at a place.
 fn half(bytes: &[u8], place: usize) -> u16
     requires { place + 2 ≤ length bytes.now }
-    ensures { result ≡ half_at bytes.now place }
+    ensures { result ≡ header_half bytes.now place }
 {
     LittleEndian::read_u16(&bytes[place..])
 }
@@ -18,7 +18,7 @@ fn half(bytes: &[u8], place: usize) -> u16
 /// The number in 4 bytes at a place.
 fn word(bytes: &[u8], place: usize) -> u32
     requires { place + 4 ≤ length bytes.now }
-    ensures { result ≡ word_at bytes.now place }
+    ensures { result ≡ header_word bytes.now place }
 {
     LittleEndian::read_u32(&bytes[place..])
 }

@@ -10,6 +10,3 @@ mod plan;
 pub use file_bytes::{FileBytes, SliceBytes};
 pub use plan::{ElfPlan, plan_law, read};
 pub use unix_model::{ElfFault, Load};
-
-#[cfg(test)]
-mod tests;

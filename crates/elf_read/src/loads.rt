@@ -2,7 +2,7 @@
 
 ghost use Rattle.std.specs.Prelude.{◌≡◌, ◌+◌, ◌*◌, ◌≤◌, [], ◌∷◌, ◌++◌, length, Ok, Err, All};
 ghost use Rattle.std.specs.List.{list_any};
-ghost use Rattle.unix_model.specs.Elf.{first_of_tests, load_tests, load_of, load_end, overlaps, loads_with, loads_of_first, break_start_of};
+ghost use Rattle.unix_model.specs.Elf.{first_of_tests, load_tests, segment_of, load_end, overlaps, loads_with, loads_of_first, break_start_of};
 ghost use Rattle.elf_read.specs.Shown.{shown_loads};
 
 use crate::file_bytes::FileBytes;
@@ -51,7 +51,7 @@ fn overlaps_one(load: &Load, loads: &[Load]) -> bool
 }
 
 /// The loads with one more, where its tests let it follow them.
-#[tactic(auto, unfolding(unix_model::specs::Elf::load_tests, unix_model::specs::Elf::loads_end))]
+#[tactic(auto, unfolding(unix_model::specs::Elf::load_tests, unix_model::specs::Limits::loads_end))]
 fn with_load(
     file_length: u32,
     load: Load,
@@ -80,9 +80,9 @@ fn with_load(
 }
 
 /// The load that a program header asks for.
-#[tactic(auto, unfolding(unix_model::specs::Elf::load_of))]
+#[tactic(auto, unfolding(unix_model::specs::Elf::segment_of))]
 fn load_from(header: &ProgramHeader) -> Load
-    ensures { result ≡ load_of header.now }
+    ensures { result ≡ segment_of header.now }
 {
     Load {
         at: header.at,

@@ -1,3 +1,6 @@
+pub mod ConsoleLaws
+pub mod StoreSteps
+pub mod FilesFacts
 pub mod PageWrites
 pub mod SlotLaws
 pub mod SlotBounds

@@ -1,5 +1,5 @@
 -- The inodes and descriptions that those of the plain machine stand for.
-use Rattle.std.specs.Prelude.{map}
+use Rattle.std.specs.Prelude.{Bool, true, false, Option, Some, None, map}
 use Rattle.unix_model.specs.Files as model
 use Rattle.flat_unix.specs.EntryView.{place_of}
 use Rattle.flat_unix.specs.declared.inode.Inode.{Inode}
@@ -8,8 +8,15 @@ use Rattle.flat_unix.specs.declared.description.Description.{Description}
 
 abbrev pub inode_of : Inode → model.Inode
 inode_of (File contents) = model.File contents.bytes.items
-inode_of (Directory directory) = model.Directory directory.parent (map place_of directory.places.items)
+inode_of (Directory directory) = model.Directory directory.parent (map place_of directory.entries.items)
 inode_of Console = model.Console
+
+-- the console
+abbrev pub is_console : Option Inode → Bool
+is_console (Some Console) = true
+is_console (Some (File contents)) = false
+is_console (Some (Directory directory)) = false
+is_console None = false
 
 abbrev pub description_of : Description → model.Description
 description_of description =

@@ -1,11 +1,14 @@
 pub mod Fields
 pub mod MemoryView
+pub mod ServedCalls
 pub mod ProcessView
 pub mod SlotsView
 pub mod EntryView
 pub mod InodeView
+pub mod OpenedView
 pub mod FilesView
 pub mod FreeNumber
+pub mod RootFiles
 pub mod FlatView
 pub mod Steps
 pub mod Boots

@@ -4,17 +4,18 @@ use Rattle.unix_model.specs.Process as model
 use Rattle.flat_unix.specs.declared.process.Phase.{Phase}
 use Rattle.flat_unix.specs.declared.process.Phase.TheVariants.{Run, Asked, Sent, Done, Exiting, Zombie}
 use Rattle.flat_unix.specs.declared.process.Process.{Process}
-use Rattle.flat_unix.specs.declared.request.Request.{Request}
+use Rattle.flat_unix.specs.declared.sent_call.SentCall.{SentCall}
 use Rattle.flat_unix.specs.MemoryView.{memory_of}
+use Rattle.flat_unix.specs.ServedCalls.{served_call}
 
-abbrev pub request_of : Request → model.Request
-request_of request = record { call = request.call; arguments = request.arguments; bytes = request.bytes.items }
+abbrev pub sent_call_of : SentCall → model.SentCall
+sent_call_of sent = record { call = served_call sent.call; arguments = sent.arguments; bytes = sent.bytes.items }
 
 -- an answer brings no bytes for memory yet
 abbrev pub phase_of : Phase → model.Phase
 phase_of Run = model.Run
 phase_of Asked = model.Asked
-phase_of (Sent request) = model.Sent (request_of request)
+phase_of (Sent sent) = model.Sent (sent_call_of sent)
 phase_of (Done value) = model.Done value 0 []
 phase_of (Exiting word) = model.Exiting word
 phase_of (Zombie word) = model.Zombie word

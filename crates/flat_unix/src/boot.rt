@@ -1,9 +1,9 @@
 //! A machine from nothing to its first process.
 
-ghost use Rattle.std.specs.Prelude.{◌≡◌, ◌≤◌, ℕ, List, IfOk, length};
+ghost use Rattle.std.specs.Prelude.{◌≡◌, ◌≤◌, ℕ, List, IfOk, false, length};
 ghost use Rattle.elf_read.specs.Accepted.{IsSound};
 ghost use Rattle.elf_read.specs.Shown.{shown_answer, shown_plan};
-ghost use Rattle.unix_model.specs.Boot.{first_process, init_arguments};
+ghost use Rattle.unix_model.specs.Boot.{NewFile, first_process, init_arguments, is_too_long};
 ghost use Rattle.unix_model.specs.Elf.{LoadPlan, plan_of};
 ghost use Rattle.unix_model.specs.Loading.{image, start_registers};
 ghost use Rattle.unix_model.specs.Numbers.{pages_of};
@@ -25,15 +25,18 @@ use std::alloc::{AllocError, Global};
 use unix_model::Regs;
 
 impl Flat {
-    ghost use Rattle.std.specs.Prelude.{◌≡◌, ◌<◌, ◌≤◌, ◌^◌, ℕ, List, All, Some, None, Err, IfOk, IfErr, IsSome, OnOk, length, drop};
-    ghost use Rattle.unix_model.specs.Boot.{empty_machine, file_named, init_name, loaded, places_of, started, stored, with_file};
-    ghost use Rattle.unix_model.specs.Elf.{LoadPlan, plan_of};
+    ghost use Rattle.std.specs.Prelude.{◌≡◌, ◌<◌, ◌≤◌, ◌^◌, ℕ, List, All, Some, Ok, Err, IfOk, IfErr, IsSome, OnOk, length, drop};
+    ghost use Rattle.unix_model.specs.Boot.{NewFile, NoRoomFor, empty_machine, init_path, is_too_long, started, with_init};
+    ghost use Rattle.unix_model.specs.Files.{File, places_of};
+    ghost use Rattle.unix_model.specs.Elf.{LoadPlan};
+    ghost use Rattle.unix_model.specs.NameCalls.{with_made};
+    ghost use Rattle.unix_model.specs.Paths.{file_at};
     ghost use Rattle.elf_read.specs.Accepted.{IsLoadable};
     ghost use Rattle.unix_model.specs.Tables.{at};
     ghost use Rattle.unix_model.specs.Room.{promised, has_room};
-    ghost use Rattle.unix_model.proofs.BootLaws.{is_too_large};
     ghost use Rattle.flat_unix.specs.FlatView.{unix_of};
     ghost use Rattle.flat_unix.specs.FreeNumber.{IsFreeNumber};
+    ghost use Rattle.flat_unix.specs.RootFiles.{root_spot, stored};
     ghost use Rattle.flat_unix.specs.Boots.{IsNoMemory, IsStoreFault, Loads, Starts};
 
     /// A machine that may promise `pages` pages, 64 to 16,384, and gives each slot `quantum` turns in a row, 1 to
@@ -85,18 +88,21 @@ impl Flat {
     /// machine is then as before. `NoMemory` is free; the machine is then given up.
     pub fn add_file(&mut self, alloc: Global, path: &[u8], bytes: &[u8]) -> Result<(), FlatFault>
         requires { 1 < length path.now }
-        ensures ok { OnOk result (stored (unix_of self.old) (drop 1 path.now) bytes.now ≡ Some (unix_of self.new)) }
-        ensures no_room { result ≡ Err FlatFault.NoRoom → stored (unix_of self.old) (drop 1 path.now) bytes.now ≡ None }
+        ensures ok { OnOk result (stored (unix_of self.old) (drop 1 path.now) bytes.now ≡ Ok (unix_of self.new)) }
+        ensures no_room { result ≡ Err FlatFault.NoRoom → stored (unix_of self.old) (drop 1 path.now) bytes.now ≡ Err (NoRoomFor 0) }
         ensures unchanged { result ≡ Err FlatFault.NoRoom → unix_of self.new ≡ unix_of self.old }
         ensures err { IfErr result IsStoreFault }
     {
-        if self.is_too_large(bytes) {
+        if is_too_long(bytes) {
             return Err(FlatFault::NoRoom);
         }
         let number = match self.files.free_inode() {
             Some(number) => number,
             None => return Err(FlatFault::NoRoom),
         };
+        if self.files.is_root_full() {
+            return Err(FlatFault::NoRoom);
+        }
         if !self.has_room_for(number, bytes) {
             return Err(FlatFault::NoRoom);
         }
@@ -106,19 +112,11 @@ impl Flat {
         }
     }
 
-    /// Whether a file is too long, or the root has no place for it.
-    #[tactic(auto, unfolding(unix_model::specs::Boot::most_file_bytes, unix_model::specs::Boot::most_places))]
-    fn is_too_large(&self, bytes: &[u8]) -> bool
-        ensures { result ≡ is_too_large (unix_of self.now) bytes.now }
-    {
-        bytes.len() > 4194304 || self.files.root_places() >= 1024
-    }
-
     /// Whether there is room for a file at a free inode number.
     fn has_room_for(&self, number: u16, bytes: &[u8]) -> bool
         requires number { IsFreeNumber (unix_of self.now).files.inodes number }
         requires few { length bytes.now ≤ 4194304 }
-        ensures { (name : List ℕ) → result ≡ has_room (with_file (unix_of self.now) name bytes.now number) }
+        ensures { (name : List ℕ) → result ≡ has_room (with_made (unix_of self.now) (root_spot name) number (File bytes.now)) }
     {
         let after = self.promised() + pages_of(bytes) + self.files.root_pages_with_entry();
         let before = self.pages + self.files.root_pages();
@@ -126,7 +124,7 @@ impl Flat {
     }
 
     /// Stores a file at a free inode number.
-    #[tactic(auto, using(unix_model::proofs::BootLaws::root))]
+    #[tactic(auto, using(crate::proofs::StoreSteps::root))]
     fn store(
         &mut self,
         alloc: Global,
@@ -137,7 +135,7 @@ impl Flat {
         requires number { IsFreeNumber (unix_of self.old).files.inodes number }
         requires few { length bytes.now ≤ 4194304 }
         requires places { length (places_of (at (unix_of self.old).files.inodes 1)) < 1024 }
-        ensures { OnOk result (unix_of self.new ≡ with_file (unix_of self.old) name.now bytes.now number) }
+        ensures { OnOk result (unix_of self.new ≡ with_made (unix_of self.old) (root_spot name.now) number (File bytes.now)) }
     {
         let entry = Entry {
             name: Vec::from_slice(alloc, name)?,
@@ -147,7 +145,7 @@ impl Flat {
             bytes: Vec::from_slice(alloc, bytes)?,
         };
         self.files.set_inode(number, Inode::File(contents));
-        self.files.add_root_entry(entry)?;
+        self.files.add_root_entry(alloc, entry)?;
         Ok(())
     }
 
@@ -158,10 +156,10 @@ impl Flat {
     /// `Elf` where the file isn't a program that this machine runs, and `NoRoom` exactly where the machine with the
     /// program loaded has no room; the machine is then as before. `NoMemory` is free; the machine is then given up.
     pub fn start(&mut self, alloc: Global) -> Result<(), FlatFault>
-        requires { IsSome (file_named (unix_of self.old).files init_name) }
-        ensures start { (file : List ℕ) → file_named (unix_of self.old).files init_name ≡ Some file → Starts (loaded file (unix_of self.old) (plan_of file)) (unix_of self.old) (unix_of self.new) result }
+        requires { IsSome (file_at (unix_of self.old).files init_path) }
+        ensures { Starts (with_init (unix_of self.old)) (unix_of self.old) (unix_of self.new) result }
     {
-        let file = match self.files.file_named(b"init") {
+        let file = match self.files.init_file() {
             Some(file) => file,
             None => unreachable!(),
         };
@@ -175,10 +173,11 @@ impl Flat {
         Ok(())
     }
 
-    /// Process 1, loaded from a file.
+    /// Process 1, loaded from the file `/init`.
     fn first_process(&self, alloc: Global, file: &[u8]) -> Result<Process, FlatFault>
-        requires { length file.now ≤ 4194304 }
-        ensures { Loads (loaded file.now (unix_of self.now) (plan_of file.now)) (unix_of self.now) result }
+        requires file { file_at (unix_of self.now).files init_path ≡ Some file.now }
+        requires few { length file.now ≤ 4194304 }
+        ensures { Loads (with_init (unix_of self.now)) (unix_of self.now) result }
     {
         let plan = match read_plan(file) {
             Ok(plan) => plan,
@@ -253,6 +252,15 @@ fn first_process(entry: u32, break_start: u32, memory: Memory) -> Process
         descriptors,
         phase: Phase::Run,
     }
+}
+
+/// Whether a file is too long.
+#[tactic(auto, unfolding(unix_model::specs::Limits::most_file_bytes))]
+fn is_too_long(bytes: &[u8]) -> bool
+    ensures long { result ≡ is_too_long (NewFile bytes.now) }
+    ensures few { result ≡ false → length bytes.now ≤ 4194304 }
+{
+    bytes.len() > 4194304
 }
 
 /// The pages that a file of these bytes takes.

@@ -1,7 +1,7 @@
 //! The entries of directories.
 
 ghost use Rattle.std.specs.Prelude.{◌≡◌, map};
-ghost use Rattle.unix_model.specs.Boot as model;
+ghost use Rattle.unix_model.specs.Files as model;
 ghost use Rattle.unix_model.specs.Tables.{option_or};
 ghost use Rattle.flat_unix.specs.EntryView.{place_of};
 
@@ -12,40 +12,35 @@ pub struct Entry {
     pub inode: u16,
 }
 
-/// The inode of a place that has this name.
-fn place_inode(place: &Option<Entry>, name: &[u8]) -> Option<u16>
-    ensures { result ≡ model.place_inode name.now (place_of place.now) }
+/// The inode of an entry that has this name.
+fn place_inode(entry: &Entry, name: &[u8]) -> Option<u16>
+    ensures { result ≡ model.place_inode name.now (place_of entry.now) }
 {
-    match place {
-        Some(entry) => {
-            if entry.name.as_slice() == name {
-                Some(entry.inode)
-            } else {
-                None
-            }
-        }
-        None => None,
+    if entry.name.as_slice() == name {
+        Some(entry.inode)
+    } else {
+        None
     }
 }
 
-/// The inode that was found, or else that of a place that has this name.
-fn found_or(found: Option<u16>, place: &Option<Entry>, name: &[u8]) -> Option<u16>
-    ensures { result ≡ option_or found (model.place_inode name.now (place_of place.now)) }
+/// The inode that was found, or else that of an entry that has this name.
+fn found_or(found: Option<u16>, entry: &Entry, name: &[u8]) -> Option<u16>
+    ensures { result ≡ option_or found (model.place_inode name.now (place_of entry.now)) }
 {
     match found {
         Some(inode) => Some(inode),
-        None => place_inode(place, name),
+        None => place_inode(entry, name),
     }
 }
 
-/// The inode of the first place with this name.
+/// The inode of the first entry with this name.
 #[tactic(auto, using(crate::proofs::DirectoryLaws::names))]
-pub fn inode_named(places: &[Option<Entry>], name: &[u8]) -> Option<u16>
-    ensures { result ≡ model.inode_named (map place_of places.now) name.now }
+pub fn inode_named(entries: &[Entry], name: &[u8]) -> Option<u16>
+    ensures { result ≡ model.inode_named (map place_of entries.now) name.now }
 {
     let mut found = None;
-    for place in places {
-        found = found_or(found, place, name);
+    for entry in entries {
+        found = found_or(found, entry, name);
     }
     found
 }

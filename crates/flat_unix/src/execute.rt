@@ -4,7 +4,7 @@ ghost use Rattle.std.specs.Prelude.{◌≡◌, ℕ, ◌<◌, ◌≤◌, ◌^◌,
 ghost use Rattle.unix_model.specs.declared.instructions.Access.TheVariants.{Finished};
 ghost use Rattle.unix_model.specs.Execution.{executed, executed_instruction, begun, writes, jumps, branches, goes_on, imm_value as imm_value_of, reg_value as reg_value_of, is_taken as is_taken_of, load_value as load_value_of, load_size, store_size as store_size_of, store_value as store_value_of, loaded, stored, at_next, with_register, address_of};
 ghost use Rattle.unix_model.specs.Memory.{bytes_at, with_bytes};
-ghost use Rattle.unix_model.specs.Numbers.{word_of};
+ghost use Rattle.unix_model.specs.Numbers.{word_of_bytes};
 ghost use Rattle.std.specs.Int.{bytes_low_first};
 ghost use Rattle.flat_unix.specs.Fields.{HasRegisters};
 ghost use Rattle.flat_unix.specs.MemoryView.{memory_of};
@@ -131,7 +131,7 @@ fn branch(regs: &mut Regs, taken: bool, target: u32) -> Outcome
 /// The number that the bytes of a load spell, or None where one of them isn't mapped.
 #[tactic(auto, using(unix_model::proofs::MemoryLaws::numbers))]
 fn number(memory: &Memory, op: LoadOp, address: u32) -> Option<u32>
-    ensures number { result ≡ option_map word_of (bytes_at (memory_of memory.now) address (load_size op)) }
+    ensures number { result ≡ option_map word_of_bytes (bytes_at (memory_of memory.now) address (load_size op)) }
     ensures range { IfSome result (λ number. number < 2 ^ (8 * load_size op)) }
 {
     match op {
@@ -258,47 +258,5 @@ pub fn execute(regs: &mut Regs, memory: &mut Memory) -> Outcome
     match decode(word) {
         Some(instr) => execute_instr(regs, memory, instr),
         None => Outcome::Fault(Cause::Illegal),
-    }
-}
-
-#[cfg(test)]
-mod tests {
-    use super::*;
-    use crate::page::Page;
-    use std::alloc::{AllocError, Global};
-    use std::test::Fail;
-
-    fn writable_page(alloc: Global) -> Result<Page, AllocError> {
-        Ok(Page {
-            writable: true,
-            bytes: vec![in alloc; 0; 4096]?,
-        })
-    }
-
-    fn two_words(memory: &Memory) -> [Option<u32>; 2] {
-        [memory.word(0x1_1FFC), memory.word(0x1_2000)]
-    }
-
-    /// `sw a2, -3(a1)` at 0x1_0000, to 0x1_1FFE, before and after the page 0x1_2000 is mapped.
-    #[test]
-    fn a_store_over_two_pages_needs_both(rt: HostRuntime) -> Result<(), Fail> {
-        let alloc = rt.alloc();
-        let mut memory = Memory::new(alloc);
-        memory.pages.insert(0x10, writable_page(alloc)?)?;
-        memory.pages.insert(0x11, writable_page(alloc)?)?;
-        memory.write(0x1_0000, &[0xA3, 0xAE, 0xC5, 0xFE]);
-        let mut regs = Regs {
-            x: [0; 32],
-            pc: 0x1_0000,
-        };
-        regs.x[11] = 0x1_2001;
-        regs.x[12] = 0x8765_4321;
-        assert!(rt; execute(&mut regs, &mut memory) == Outcome::Fault(Cause::BadStore));
-        assert_eq!(rt; regs.pc, 0x1_0000);
-        assert_eq!(rt; two_words(&memory), [Some(0), None]);
-        memory.pages.insert(0x12, writable_page(alloc)?)?;
-        assert!(rt; execute(&mut regs, &mut memory) == Outcome::Next);
-        assert_eq!(rt; two_words(&memory), [Some(0x4321_0000), Some(0x0000_8765)]);
-        Ok(())
     }
 }

@@ -1,6 +1,7 @@
 //! Files and open descriptions by their numbers.
 
-ghost use Rattle.std.specs.Prelude.{◌≡◌, length};
+ghost use Rattle.std.specs.Prelude.{◌≡◌, None, length, slice_index_or, true};
+ghost use Rattle.flat_unix.specs.InodeView.{is_console};
 
 use crate::description::Description;
 use crate::directory::Directory;
@@ -17,16 +18,21 @@ pub struct Files {
     pub(crate) descriptions: Vec<Option<Description>>,
     ghost all_inodes: { length inodes.items ≡ 1024 },
     ghost all_descriptions: { length descriptions.items ≡ 2048 },
+    ghost console: { is_console (slice_index_or inodes.items 0 None) ≡ true },
 }
 
 impl Files {
-    ghost use Rattle.std.specs.Prelude.{◌≡◌, ◌<◌, ◌≤◌, IfOk, IfSome, OnOk, None, Some, length, option_map};
-    ghost use Rattle.unix_model.specs.Boot.{file_named, first_inodes, free_inode, places_of, with_description, with_entry, with_root_entry};
+    ghost use Rattle.std.specs.Prelude.{◌≡◌, ◌<◌, ◌≤◌, ℕ, IfOk, IfSome, OnOk, None, Some, false, length, map, option_map};
+    ghost use Rattle.unix_model.specs.Boot.{first_inodes};
+    ghost use Rattle.unix_model.specs.Files.{free_inode, is_full, parent_of, places_of, with_description, with_entry};
+    ghost use Rattle.unix_model.specs.Paths.{file_at};
+    ghost use Rattle.unix_model.specs.Boot.{init_path};
     ghost use Rattle.unix_model.specs.Files as model;
     ghost use Rattle.unix_model.specs.Tables.{at, with_at, nothing, sum_below};
     ghost use Rattle.flat_unix.specs.FreeNumber.{IsFreeNumber};
     ghost use Rattle.flat_unix.specs.FilesView.{files_of};
-    ghost use Rattle.flat_unix.specs.EntryView.{entry_of};
+    ghost use Rattle.flat_unix.specs.EntryView.{place_of};
+    ghost use Rattle.flat_unix.specs.RootFiles.{file_named};
     ghost use Rattle.flat_unix.specs.InodeView.{inode_of, description_of};
 
     /// The console and the empty root, and no description.
@@ -34,24 +40,25 @@ impl Files {
     pub fn new(alloc: Global) -> Result<Files, AllocError>
         ensures { IfOk result (λ files. files_of files ≡ record { inodes = first_inodes; descriptions = nothing }) }
     {
-        let mut files = Files::nothing(alloc)?;
-        files.set_inode(0, Inode::Console);
+        let mut files = Files::console(alloc)?;
         files.set_inode(
             1,
             Inode::Directory(Directory {
                 parent: 1,
-                places: Vec::new(alloc),
+                entries: Vec::new(alloc),
             }),
         );
         Ok(files)
     }
 
-    /// No inode and no description.
-    fn nothing(alloc: Global) -> Result<Files, AllocError>
-        ensures { IfOk result (λ files. files_of files ≡ record { inodes = nothing; descriptions = nothing }) }
+    /// The console alone, and no description.
+    fn console(alloc: Global) -> Result<Files, AllocError>
+        ensures { IfOk result (λ files. files_of files ≡ record { inodes = with_at nothing 0 (Some model.Console); descriptions = nothing }) }
     {
+        let mut inodes = free_places(alloc, 1024)?;
+        inodes[0] = Some(Inode::Console);
         Ok(Files {
-            inodes: free_places(alloc, 1024)?,
+            inodes,
             descriptions: free_places(alloc, 2048)?,
         })
     }
@@ -78,20 +85,6 @@ impl Files {
             self.inodes[number as usize].as_ref()
         } else {
             None
-        }
-    }
-
-    /// The inode that a description, where there is one, is open on.
-    pub fn inode_of_number(&self, number: Option<u16>) -> Option<&Inode>
-        ensures { option_map (λ inode. inode_of inode.now) result ≡ model.inode_of_number (files_of self.now) number }
-    {
-        let number = match number {
-            Some(number) => number,
-            None => return None,
-        };
-        match self.description(number) {
-            Some(description) => self.inode(description.inode),
-            None => None,
         }
     }
 
@@ -157,19 +150,21 @@ impl Files {
         }
     }
 
-    /// Puts an inode at a number.
+    /// Puts an inode at a number, which isn't the console's.
     #[tactic(auto, using(crate::proofs::SlotLaws::slots), unfolding(crate::specs::FilesView::files_of))]
     pub fn set_inode(&mut self, number: u16, inode: Inode)
-        requires { number < 1024 }
+        requires number { number < 1024 }
+        requires other { 0 < number }
         ensures { files_of self.new ≡ record (files_of self.old) { inodes = with_at (files_of self.old).inodes number (Some (inode_of inode)) } }
     {
         self.inodes[number as usize] = Some(inode);
     }
 
-    /// Takes an inode away.
+    /// Takes an inode away, which isn't the console.
     #[tactic(auto, using(crate::proofs::SlotLaws::slots), unfolding(crate::specs::FilesView::files_of))]
     fn remove_inode(&mut self, inode: u16)
-        requires { inode < 1024 }
+        requires inside { inode < 1024 }
+        requires other { 0 < inode }
         ensures { files_of self.new ≡ record (files_of self.old) { inodes = with_at (files_of self.old).inodes inode None } }
     {
         self.inodes[inode as usize] = None;
@@ -198,7 +193,7 @@ impl Files {
     }
 
     /// The least free inode number, which isn't the console's or the root's.
-    #[tactic(auto, using(unix_model::proofs::TableLaws::steps), unfolding(unix_model::specs::Boot::free_inode))]
+    #[tactic(auto, using(unix_model::proofs::TableLaws::steps), unfolding(unix_model::specs::Files::free_inode))]
     pub fn free_inode(&self) -> Option<u16>
         ensures least { result ≡ free_inode (files_of self.now).inodes }
         ensures free { IfSome result (IsFreeNumber (files_of self.now).inodes) }
@@ -236,17 +231,19 @@ impl Files {
         pages
     }
 
-    /// The places of the root.
-    pub fn root_places(&self) -> usize
-        ensures { result ≡ length (places_of (at (files_of self.now).inodes 1)) }
+    /// Whether the root has no place for an entry more.
+    #[tactic(auto, unfolding(unix_model::specs::Limits::most_places))]
+    pub fn is_root_full(&self) -> bool
+        ensures full { result ≡ is_full (files_of self.now) 1 }
+        ensures place { result ≡ false → length (places_of (at (files_of self.now).inodes 1)) < 1024 }
     {
         match self.inode(1) {
-            Some(inode) => inode.places(),
-            None => 0,
+            Some(inode) => inode.is_full(),
+            None => false,
         }
     }
 
-    /// The pages of the root, and those that it has with an entry more.
+    /// The pages of the root.
     pub fn root_pages(&self) -> u32
         ensures pages { result ≡ model.inode_pages (at (files_of self.now).inodes 1) }
         ensures few { result ≤ 1024 }
@@ -256,44 +253,63 @@ impl Files {
 
     /// The pages that the root has with an entry more.
     pub fn root_pages_with_entry(&self) -> u32
-        ensures pages { (entry : model.Entry) → result ≡ model.inode_pages (with_entry (at (files_of self.now).inodes 1) entry) }
+        ensures pages { (parent : ℕ) (entry : model.Entry) → result ≡ model.inode_pages (Some (model.Directory parent (with_entry (places_of (at (files_of self.now).inodes 1)) entry))) }
         ensures few { result ≤ 1025 }
     {
         match self.inode(1) {
             Some(inode) => inode.pages_with_entry(),
-            None => 0,
+            None => 1,
         }
     }
 
     /// Adds an entry to the root.
-    #[tactic(auto, using(unix_model::proofs::TableLaws::tables, crate::proofs::SlotLaws::lengths))]
-    pub fn add_root_entry(&mut self, entry: Entry) -> Result<(), AllocError>
+    #[tactic(auto, using(unix_model::proofs::TableLaws::tables, crate::proofs::DirectoryLaws::entries))]
+    pub fn add_root_entry(&mut self, alloc: Global, entry: Entry) -> Result<(), AllocError>
         requires { length (places_of (at (files_of self.old).inodes 1)) < 1024 }
-        ensures { OnOk result (files_of self.new ≡ record (files_of self.old) { inodes = with_root_entry (files_of self.old).inodes (entry_of entry) }) }
+        ensures { OnOk result (files_of self.new ≡ model.with_name (files_of self.old) 1 entry.name.items entry.inode) }
     {
-        match self.take_inode(1) {
-            Some(inode) => {
-                let inode = inode.with_entry(entry)?;
-                self.set_inode(1, inode);
-            }
-            None => {}
-        }
+        let root = self.take_root(alloc);
+        let root = root.with_entry(entry)?;
+        self.set_inode(1, Inode::Directory(root));
         Ok(())
     }
 
-    /// Takes the inode out of a number.
+    /// Takes the root out, or a directory without a parent and entries where it is none.
+    fn take_root(&mut self, alloc: Global) -> Directory
+        ensures parent { result.parent ≡ parent_of (at (files_of self.old).inodes 1) }
+        ensures entries { map place_of result.entries.items ≡ places_of (at (files_of self.old).inodes 1) }
+        ensures free { files_of self.new ≡ record (files_of self.old) { inodes = with_at (files_of self.old).inodes 1 None } }
+    {
+        match self.take_inode(1) {
+            Some(inode) => inode.into_directory(alloc),
+            None => Directory {
+                parent: 0,
+                entries: Vec::new(alloc),
+            },
+        }
+    }
+
+    /// Takes the inode out of a number, which isn't the console's.
     #[tactic(auto, using(crate::proofs::SlotLaws::slots), unfolding(crate::specs::FilesView::files_of, unix_model::specs::Tables::at))]
     fn take_inode(&mut self, number: u16) -> Option<Inode>
-        requires { number < 1024 }
+        requires number { number < 1024 }
+        requires other { 0 < number }
         ensures taken { option_map inode_of result ≡ at (files_of self.old).inodes number }
         ensures free { files_of self.new ≡ record (files_of self.old) { inodes = with_at (files_of self.old).inodes number None } }
     {
         mem::replace(&mut self.inodes[number as usize], None)
     }
 
+    /// The bytes of the file `/init`.
+    pub fn init_file(&self) -> Option<&[u8]>
+        ensures bytes { option_map (λ bytes. bytes.now) result ≡ file_at (files_of self.now) init_path }
+        ensures few { IfSome result (λ bytes. length bytes.now ≤ 4194304) }
+    {
+        self.file_named(b"init")
+    }
+
     /// The bytes of the file of this name in the root.
-    #[tactic(auto, unfolding(unix_model::specs::Boot::file_named))]
-    pub fn file_named(&self, name: &[u8]) -> Option<&[u8]>
+    fn file_named(&self, name: &[u8]) -> Option<&[u8]>
         ensures bytes { option_map (λ bytes. bytes.now) result ≡ file_named (files_of self.now) name.now }
         ensures few { IfSome result (λ bytes. length bytes.now ≤ 4194304) }
     {

@@ -1,18 +1,20 @@
 //! The machine.
 
 ghost use Rattle.std.specs.Prelude.{◌≡◌, ◌*◌, ◌<◌, ◌≤◌};
-ghost use Rattle.unix_model.specs.Calls.{refusal};
-ghost use Rattle.unix_model.specs.Enter.{answered};
+ghost use Rattle.unix_model.specs.Calls.{refusal_word};
+ghost use Rattle.unix_model.specs.Process.{answered};
 ghost use Rattle.flat_unix.specs.ProcessView.{phase_of};
 
+use crate::calls::ServedCall;
 use crate::files::Files;
 use crate::inode::Inode;
+use crate::opened::Opened;
 use crate::process::{Phase, Process};
-use crate::request::Request;
+use crate::sent_call::SentCall;
 use crate::slots::Slots;
 use kn_io::{Failed, Sink, Source};
 use std::alloc::{AllocError, Global};
-use unix_model::{Call, ElfFault, Errno, Turned, WaitWord};
+use unix_model::{ElfFault, Errno, Turned, WaitWord};
 
 /// Why a call of the machine failed.
 #[derive(Clone, Copy, Debug, PartialEq, Eq)]
@@ -47,22 +49,25 @@ pub struct Flat {
 }
 
 impl Flat {
-    ghost use Rattle.std.specs.Prelude.{◌≡◌, ℕ, ◌<◌, ◌≤◌, List, Option, Some, None, Err, IfOk, IfErr, OnOk, OnErr, option_map};
+    ghost use Rattle.std.specs.Prelude.{◌≡◌, ℕ, ◌<◌, ◌≤◌, Bool, List, [], Option, Some, None, Err, IfOk, IfErr, OnErr, option_map};
     ghost use Rattle.kn_io.specs.Faults.{Rose};
     ghost use Rattle.kn_io.specs.Sink.{GrewByPrefix};
-    ghost use Rattle.unix_model.specs.Effect.{goes_on, write_answer};
-    ghost use Rattle.unix_model.specs.Enter.{entered, write_enters, can_write};
-    ghost use Rattle.unix_model.specs.Process.{descriptor};
-    ghost use Rattle.unix_model.specs.Schedule.{Round, next_slot};
-    ghost use Rattle.unix_model.specs.State.{halted_with, with_process, with_description_released};
-    ghost use Rattle.unix_model.specs.Turn.{turned, turned_in, exit_step, with_descriptor_closed, lowest_open, ticked, MakesTurn};
+    ghost use Rattle.unix_model.specs.declared.calls.Turned.TheVariants.{Worked};
+    ghost use Rattle.unix_model.specs.Enter.{entered, or_refused, write_enters};
+    ghost use Rattle.unix_model.specs.Process.{argument, descriptor, in_phase, lowest_open};
+    ghost use Rattle.unix_model.specs.Schedule.{Round, is_idle, is_work, next_slot};
+    ghost use Rattle.unix_model.specs.State.{halted_word, opened, with_phase, with_process, with_description_released, with_descriptor_closed};
+    ghost use Rattle.unix_model.specs.Tables.{at};
+    ghost use Rattle.unix_model.specs.Turn.{turned, turned_at, turned_in, exit_step, ticked, MakesTurn};
     ghost use Rattle.flat_unix.specs.FlatView.{unix_of};
-    ghost use Rattle.flat_unix.specs.ProcessView.{process_of, phase_of, request_of};
-    ghost use Rattle.flat_unix.specs.Steps.{Steps, IsTurnFault};
+    ghost use Rattle.flat_unix.specs.OpenedView.{opened_of};
+    ghost use Rattle.flat_unix.specs.ProcessView.{process_of, phase_of, sent_call_of};
+    ghost use Rattle.flat_unix.specs.ServedCalls.{served_calls};
+    ghost use Rattle.flat_unix.specs.Steps.{Steps, IsTurnFault, write_turn};
 
     /// The wait word of process slot 0; None exactly where that isn't a zombie.
     pub fn halted(&self) -> Option<WaitWord>
-        ensures { option_map (λ word. word.0) result ≡ halted_with (unix_of self.now) }
+        ensures { option_map (λ word. word.0) result ≡ halted_word (unix_of self.now) }
     {
         match self.slots.first_word() {
             Some(word) => Some(WaitWord(word)),
@@ -79,7 +84,7 @@ impl Flat {
 
     /// The slot whose turn it is where the turns go round.
     pub fn round_slot(&self) -> u8
-        ensures slot { result ≡ next_slot (unix_of self.now) Round }
+        ensures slot { (mark : Option Bool) → result ≡ next_slot (unix_of self.now) (Round mark) }
         ensures below { result < 64 }
     {
         (self.position / self.quantum) as u8
@@ -105,13 +110,13 @@ impl Flat {
     }
 
     /// A system call at the keeper: the phase of a process in Asked after its turn.
-    #[tactic(auto, unfolding(unix_model::specs::Enter::entered))]
+    #[tactic(auto, unfolding(unix_model::specs::Enter::entered_line))]
     fn enter(&self, alloc: Global, process: &Process) -> Result<Phase, AllocError>
-        ensures { IfOk result (λ phase. phase_of phase ≡ entered (unix_of self.now) (process_of process.now)) }
+        ensures { IfOk result (λ phase. (slot : ℕ) → in_phase (process_of process.now) (phase_of phase) ≡ entered served_calls (with_process (unix_of self.now) slot (process_of process.now)) slot (process_of process.now)) }
     {
-        match Call::of(process.argument(7)) {
-            Some(Call::Exit) => Ok(Phase::Sent(Request {
-                call: Call::Exit,
+        match ServedCall::of(process.argument(7)) {
+            Some(ServedCall::Exit) => Ok(Phase::Sent(SentCall {
+                call: ServedCall::Exit,
                 arguments: [
                     process.argument(0),
                     process.argument(1),
@@ -120,22 +125,26 @@ impl Flat {
                 ],
                 bytes: Vec::new(alloc),
             })),
-            Some(Call::Write) => self.enter_write(alloc, process),
+            Some(ServedCall::Write) => self.enter_write(alloc, process),
             None => Ok(refused(Errno::Enosys)),
         }
     }
 
     /// The line of write(descriptor, address, count).
     fn enter_write(&self, alloc: Global, process: &Process) -> Result<Phase, AllocError>
-        ensures { IfOk result (λ phase. phase_of phase ≡ write_enters (unix_of self.now) (process_of process.now)) }
+        ensures { IfOk result (λ phase. (slot : ℕ) → in_phase (process_of process.now) (phase_of phase) ≡ or_refused (process_of process.now) (write_enters (with_process (unix_of self.now) slot (process_of process.now)) (process_of process.now) (argument (process_of process.now) 0) (argument (process_of process.now) 1) (argument (process_of process.now) 2))) }
     {
-        if !self.can_write(process, process.argument(0)) {
+        let file = match self.opened(process, process.argument(0)) {
+            Some(file) => file,
+            None => return Ok(refused(Errno::Ebadf)),
+        };
+        if !file.description.writable {
             return Ok(refused(Errno::Ebadf));
         }
         let count = process.argument(2).min(4096);
         match process.memory.bytes(alloc, process.argument(1), count)? {
-            Some(bytes) => Ok(Phase::Sent(Request {
-                call: Call::Write,
+            Some(bytes) => Ok(Phase::Sent(SentCall {
+                call: ServedCall::Write,
                 arguments: [
                     process.argument(0),
                     process.argument(1),
@@ -148,17 +157,20 @@ impl Flat {
         }
     }
 
-    /// Whether a descriptor is open for writing.
-    fn can_write(&self, process: &Process, number: u32) -> bool
-        ensures { result ≡ can_write (unix_of self.now).files (process_of process.now) number }
+    /// What a descriptor of a process is open on, or None where it is closed or no descriptor.
+    fn opened(&self, process: &Process, number: u32) -> Option<Opened>
+        ensures { option_map opened_of result ≡ opened (unix_of self.now) (process_of process.now) number }
     {
         let number = match process.descriptor(number) {
             Some(number) => number,
-            None => return false,
+            None => return None,
         };
         match self.files.description(number) {
-            Some(description) => description.writable,
-            None => false,
+            Some(description) => Some(Opened {
+                number,
+                description,
+            }),
+            None => None,
         }
     }
 
@@ -219,10 +231,11 @@ impl Flat {
         output: &mut K,
     ) -> Result<Turned, FlatFault>
         requires { slot < 64 }
-        ensures turn { IfOk result (λ answer. (bytes : List ℕ) → S.left input.old ≡ Some bytes → MakesTurn (turned (unix_of self.old) slot bytes) S.left K.grew (unix_of self.new) answer input.new output.old output.new) }
+        ensures turn { IfOk result (λ answer. (bytes : List ℕ) → S.left input.old ≡ Some bytes → MakesTurn (turned served_calls (unix_of self.old) slot bytes) S.left K.grew (unix_of self.new) answer input.new output.old output.new) }
         ensures unchanged { result ≡ Err FlatFault.WriteFault → unix_of self.new ≡ unix_of self.old }
-        ensures part { OnErr result ((bytes : List ℕ) → S.left input.old ≡ Some bytes → GrewByPrefix K.grew output.old (turned (unix_of self.old) slot bytes).put output.new) }
+        ensures part { OnErr result ((bytes : List ℕ) → S.left input.old ≡ Some bytes → GrewByPrefix K.grew output.old (turned served_calls (unix_of self.old) slot bytes).put output.new) }
         ensures cause { IfErr result (IsTurnFault (Rose (S.faults input.old) (S.faults input.new)) (Rose (K.faults output.old) (K.faults output.new))) }
+        ensures input_stays { input.new ≡ input.old }
         ensures input_counted { S.faults input.old ≤ S.faults input.new }
         ensures output_counted { K.faults output.old ≤ K.faults output.new }
     {
@@ -242,7 +255,7 @@ impl Flat {
     }
 
     /// A turn of a process that was taken out of its slot, and is put back.
-    #[tactic(auto, using(unix_model::proofs::TableLaws::tables, unix_model::proofs::EnterLaws::enters))]
+    #[tactic(auto, using(unix_model::proofs::TableLaws::tables))]
     fn turn_process<K: Sink>(
         &mut self,
         alloc: Global,
@@ -251,9 +264,9 @@ impl Flat {
         output: &mut K,
     ) -> Result<Turned, FlatFault>
         requires { slot < 64 }
-        ensures turn { IfOk result (λ answer. Steps (λ bytes. turned_in (with_process (unix_of self.old) slot (process_of process)) slot (process_of process) bytes (process_of process).phase) K.grew (unix_of self.new) answer output.old output.new) }
+        ensures turn { IfOk result (λ answer. Steps (λ bytes. turned_in served_calls (with_process (unix_of self.old) slot (process_of process)) slot (process_of process) bytes (process_of process).phase) K.grew (unix_of self.new) answer output.old output.new) }
         ensures unchanged { result ≡ Err FlatFault.WriteFault → unix_of self.new ≡ with_process (unix_of self.old) slot (process_of process) }
-        ensures part { OnErr result ((bytes : List ℕ) → GrewByPrefix K.grew output.old (turned_in (with_process (unix_of self.old) slot (process_of process)) slot (process_of process) bytes (process_of process).phase).put output.new) }
+        ensures part { OnErr result ((bytes : List ℕ) → GrewByPrefix K.grew output.old (turned_in served_calls (with_process (unix_of self.old) slot (process_of process)) slot (process_of process) bytes (process_of process).phase).put output.new) }
         ensures cause { IfErr result (IsTurnFault ⊥ (Rose (K.faults output.old) (K.faults output.new))) }
         ensures counted { K.faults output.old ≤ K.faults output.new }
     {
@@ -266,12 +279,12 @@ impl Flat {
                 };
                 self.go_on(slot, process, phase);
             }
-            Phase::Sent(request) => match request.call {
-                Call::Exit => {
-                    let word = 256 * (request.arguments[0] % 256);
+            Phase::Sent(sent) => match sent.call {
+                ServedCall::Exit => {
+                    let word = 256 * (sent.arguments[0] % 256);
                     self.go_on(slot, process, Phase::Exiting(word));
                 }
-                Call::Write => match self.write(&process, request, output) {
+                ServedCall::Write => match self.write(&process, sent, output) {
                     Ok(phase) => self.go_on(slot, process, phase),
                     Err(_) => {
                         self.put(slot, process);
@@ -296,9 +309,10 @@ impl Flat {
     }
 
     /// Puts a process into a slot, in another phase.
+    #[tactic(auto, using(unix_model::proofs::TableLaws::tables))]
     fn go_on(&mut self, slot: u8, mut process: Process, phase: Phase)
         requires { slot < 64 }
-        ensures { unix_of self.new ≡ goes_on (unix_of self.old) slot (process_of process) (phase_of phase) }
+        ensures { unix_of self.new ≡ with_phase (with_process (unix_of self.old) slot (process_of process)) slot (process_of process) (phase_of phase) }
     {
         process.phase = phase;
         self.put(slot, process);
@@ -308,36 +322,55 @@ impl Flat {
     fn write<K: Sink>(
         &self,
         process: &Process,
-        request: &Request,
+        sent: &SentCall,
         output: &mut K,
     ) -> Result<Phase, Failed>
-        ensures phase { IfOk result (λ phase. phase_of phase ≡ (write_answer (unix_of self.now).files (process_of process.now) (request_of request.now)).phase) }
-        ensures grew { OnOk result (K.grew output.old (write_answer (unix_of self.now).files (process_of process.now) (request_of request.now)).put output.new) }
-        ensures part { OnErr result (GrewByPrefix K.grew output.old (write_answer (unix_of self.now).files (process_of process.now) (request_of request.now)).put output.new) }
+        ensures steps { IfOk result (λ phase. (slot : ℕ) → Steps (write_turn (unix_of self.now) slot (process_of process.now) (sent_call_of sent.now)) K.grew (with_phase (with_process (unix_of self.now) slot (process_of process.now)) slot (process_of process.now) (phase_of phase)) Worked output.old output.new) }
+        ensures part { OnErr result ((slot : ℕ) (bytes : List ℕ) → GrewByPrefix K.grew output.old (write_turn (unix_of self.now) slot (process_of process.now) (sent_call_of sent.now) bytes).put output.new) }
         ensures counted { K.faults output.old ≤ K.faults output.new }
         ensures failed { OnErr result (Rose (K.faults output.old) (K.faults output.new)) }
     {
-        let count = request.bytes.len();
+        match self.opened(process, sent.arguments[0]) {
+            Some(_) => {}
+            None => return Ok(refused(Errno::Ebadf)),
+        }
+        let count = sent.bytes.len();
         if count == 0 {
             return Ok(Phase::Done(0));
         }
-        match self
-            .files
-            .inode_of_number(process.descriptor(request.arguments[0]))
-        {
-            Some(Inode::Console) => {
-                output.put(&request.bytes)?;
-                Ok(Phase::Done(count as u32))
-            }
-            Some(_) => Ok(refused(Errno::Enosys)),
-            None => Ok(refused(Errno::Ebadf)),
+        match output.put(&sent.bytes) {
+            Ok(()) => Ok(Phase::Done(count as u32)),
+            Err(failed) => Err(failed),
+        }
+    }
+
+    /// Whether the machine is idle: no turn of a slot works, since each is free or a zombie. No call that is served waits.
+    #[tactic(auto, using(unix_model::proofs::TableLaws::steps), unfolding(unix_model::specs::Schedule::is_idle))]
+    pub fn is_idle(&self) -> bool
+        ensures { result ≡ is_idle served_calls (unix_of self.now) }
+    {
+        let mut found = false;
+        for slot in 0..64u8 {
+            found = found || self.works(slot);
+        }
+        !found
+    }
+
+    /// Whether a turn of a slot works: a process is there that hasn't ended.
+    fn works(&self, slot: u8) -> bool
+        requires { slot < 64 }
+        ensures { result ≡ is_work (turned_at served_calls (unix_of self.now) slot [] (at (unix_of self.now).processes slot)).answer }
+    {
+        match self.slots.get(slot) {
+            Some(process) => process.word().is_none(),
+            None => false,
         }
     }
 }
 
 /// A call that is refused.
 fn refused(errno: Errno) -> Phase
-    ensures { phase_of result ≡ answered (refusal errno) }
+    ensures { phase_of result ≡ answered (refusal_word errno) }
 {
     Phase::Done(errno.number().wrapping_neg())
 }

@@ -2,6 +2,7 @@
 #![tactic(auto)]
 
 mod boot;
+mod calls;
 mod contents;
 mod decode;
 mod description;
@@ -13,12 +14,14 @@ mod flat;
 mod image;
 mod inode;
 mod memory;
+mod opened;
 mod page;
 mod places;
 mod process;
-mod request;
+mod sent_call;
 mod slots;
 
+pub use calls::ServedCall;
 pub use contents::Contents;
 pub use description::Description;
 pub use directory::Directory;
@@ -27,7 +30,8 @@ pub use files::Files;
 pub use flat::{Flat, FlatFault};
 pub use inode::Inode;
 pub use memory::Memory;
+pub use opened::Opened;
 pub use page::Page;
 pub use process::{Phase, Process};
-pub use request::Request;
+pub use sent_call::SentCall;
 pub use slots::Slots;

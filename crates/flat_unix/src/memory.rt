@@ -2,7 +2,7 @@
 
 ghost use Rattle.std.specs.Prelude.{◌≡◌, ℕ, ◌<◌, ◌≤◌, ◌+◌, ◌%◌, ◌^◌, IfOk, IfSome, OnOk, Some, is_some, length, option_map, vec_len};
 ghost use Rattle.unix_model.specs.Memory.{byte_at, bytes_at, mapped_pages, word_at, is_writable, all_writable, with_byte, with_bytes};
-ghost use Rattle.unix_model.specs.Numbers.{word_of};
+ghost use Rattle.unix_model.specs.Numbers.{word_of_bytes};
 ghost use Rattle.unix_model.specs.Tables.{at, nothing, with_at};
 ghost use Rattle.flat_unix.specs.MemoryView.{memory_of, page_of};
 
@@ -133,7 +133,7 @@ impl Memory {
     /// The number that two bytes spell, the lowest first, or None where one of them isn't mapped.
     #[tactic(auto, using(unix_model::proofs::MemoryLaws::numbers))]
     pub fn half(&self, address: u32) -> Option<u16>
-        ensures { result ≡ option_map word_of (bytes_at (memory_of self.now) address 2) }
+        ensures { result ≡ option_map word_of_bytes (bytes_at (memory_of self.now) address 2) }
     {
         let first = self.byte(u64::from(address))?;
         let second = self.byte(u64::from(address) + 1)?;

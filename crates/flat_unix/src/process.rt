@@ -2,8 +2,8 @@
 
 ghost use Rattle.std.specs.Prelude.{◌≡◌, ◌<◌, ◌≤◌, ◌^◌, [], IfSome};
 ghost use Rattle.unix_model.specs.Process as model;
-ghost use Rattle.unix_model.specs.Enter.{argument};
-ghost use Rattle.unix_model.specs.Turn.{ran, returned, lowest_open, signal_of, phase_after as phase_after_outcome};
+ghost use Rattle.unix_model.specs.Process.{argument, lowest_open};
+ghost use Rattle.unix_model.specs.Turn.{ran, returned, signal_of, phase_after as phase_after_outcome};
 ghost use Rattle.std.specs.List.{list_any};
 ghost use Rattle.unix_model.specs.Room.{live_pages};
 ghost use Rattle.unix_model.specs.State.{adopted, names_description, phase_word};
@@ -11,7 +11,7 @@ ghost use Rattle.flat_unix.specs.ProcessView.{process_of, phase_of};
 
 use crate::execute::execute;
 use crate::memory::Memory;
-use crate::request::Request;
+use crate::sent_call::SentCall;
 use std::alloc::Global;
 use unix_model::{Cause, Outcome, Regs};
 
@@ -23,7 +23,7 @@ pub enum Phase {
     /// It has asked for a system call.
     Asked,
     /// Its call is on its way to a server.
-    Sent(Request),
+    Sent(SentCall),
     /// Its call is answered, with this value.
     Done(u32),
     /// It ends, with this wait word.
@@ -112,7 +112,7 @@ impl Process {
     }
 
     /// The lowest descriptor that is open.
-    #[tactic(auto, using(unix_model::proofs::TableLaws::steps), unfolding(unix_model::specs::Turn::lowest_open))]
+    #[tactic(auto, using(unix_model::proofs::TableLaws::steps), unfolding(unix_model::specs::Process::lowest_open))]
     pub fn lowest_open(&self) -> Option<u32>
         ensures least { result ≡ lowest_open (process_of self.now) }
         ensures inside { IfSome result (λ number. number < 32) }

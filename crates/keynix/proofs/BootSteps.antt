@@ -1,104 +1,148 @@
 -- A boot, step by step.
-use Rattle.std.proofs.Common.{◌≡◌, ℕ, List, Option, Some, None, Ok, Err, Result, false, refl, sym, ap, subst, ◌∙◌}
-use Rattle.std.proofs.lemmas.Bool.{eq-eqb, lt-ltb}
-use Rattle.std.specs.Prelude.{slice_index, length, not, ◌||◌, ◌==◌, ◌<◌, nat_le, if◌then◌else◌}
+use Rattle.std.proofs.Common.{◌≡◌, ℕ, List, Option, Some, Ok, Err, Result, Bool, true, false, refl, sym, ap, subst, ◌∙◌}
+use Rattle.std.proofs.lemmas.Bool.{lt-ltb}
+use Rattle.std.specs.Prelude.{codes, length, not, ◌<◌}
 use Rattle.flat_unix.specs.Boots.{Starts, IsStoreFault}
+use Rattle.flat_unix.specs.RootFiles.{root_spot, stored}
 use Rattle.flat_unix.specs.declared.flat.FlatFault.{FlatFault}
 use Rattle.flat_unix.specs.declared.flat.FlatFault.TheVariants.{ReadFault, WriteFault, NoMemory, NoRoom, Elf}
+use Rattle.unix_model.specs.declared.calls.Errno.{Errno}
 use Rattle.unix_model.specs.Boot as model
-use Rattle.unix_model.specs.Elf.{plan_of}
+use Rattle.unix_model.specs.Boot.{stop◌where_not◌}
+use Rattle.unix_model.specs.Limits.{most_file_bytes}
+use Rattle.unix_model.specs.Paths.{Spot, file_at, inode_at, is_dots, walked, walked_in}
+use Rattle.unix_model.specs.Refusals.{◌>>◌}
 use Rattle.unix_model.specs.State.{Unix}
-use Rattle.unix_model.proofs.StoredLaws.{stored-found}
-use Rattle.unix_model.specs.Tables.{at}
-use Rattle.unix_model.proofs.BootLaws.{stored-too_large}
+use Rattle.unix_model.specs.Tables.{at, with_at}
+use Rattle.unix_model.specs.Words.{default_pages, default_quantum}
+use Rattle.unix_model.proofs.BootLaws.{booted-long, booted-refused, booted-entry, init-found, init-walked, init_spot}
 use Rattle.kn_io.specs.Sink.{GrewByPrefix}
 use Rattle.keynix.specs.declared.ending.Ending.{Ending}
 use Rattle.keynix.specs.declared.ending.Ending.TheVariants as ending
 use Rattle.keynix.specs.declared.ending.Refusal.{Refusal}
 use Rattle.keynix.specs.declared.ending.Refusal.TheVariants as refusal
-use Rattle.keynix.specs.Endings.{Boots, Ends, Reads, fault_ending, refusal_view}
+use Rattle.keynix.specs.Endings.{Boots, Ends, Reads, boot_of, fault_ending, told_boot}
 
-module _ (pages quantum : ℕ) (empty : Unix) (file : List ℕ) (is_empty : empty ≡ model.empty_machine pages quantum) (elf : slice_index file 0 ≡ 0x7F) where
-  by_storing : model.booted pages quantum file ≡ model.loaded_where_stored file (model.stored empty model.init_name file)
-  unfolding model.booted
-  by_storing =
-      ap (λ test. if not test then Err model.NotBuilt else model.loaded_where_stored file (model.stored (model.empty_machine pages quantum) model.init_name file)) (eq-eqb (slice_index file 0) 0x7F elf)
-      ∙ ap (λ unix. model.loaded_where_stored file (model.stored unix model.init_name file)) (sym is_empty)
+-- the machine before anything is stored
+abbrev empty : Unix
+empty = model.empty_machine default_pages default_quantum
 
-  -- the file was stored
-  pub boot-stored : (after : Unix) → model.stored empty model.init_name file ≡ Some after → model.booted pages quantum file ≡ model.loaded file after (plan_of file)
-  boot-stored after e = by_storing ∙ ap (model.loaded_where_stored file) e
+-- an ELF file is booted as one file
+elf-booted : (bytes : List ℕ) → model.is_elf bytes ≡ true → boot_of bytes ≡ told_boot (model.booted_file default_pages default_quantum bytes)
+unfolding boot_of
+elf-booted bytes elf = rw elf refl
 
-  -- and is there
-  pub boot-named : (after : Unix) → model.stored empty model.init_name file ≡ Some after → model.file_named after.files model.init_name ≡ Some file
-  boot-named after e = stored-found pages quantum after model.init_name file (ap (λ unix. model.stored unix model.init_name file) (sym is_empty) ∙ e)
+not_built : (bytes : List ℕ) → model.is_elf bytes ≡ false → boot_of bytes ≡ Err refusal.NotBuilt
+unfolding boot_of
+not_built bytes other = rw other refl
 
-  -- there was no room for it
-  pub boot-no_room : model.stored empty model.init_name file ≡ None → model.booted pages quantum file ≡ Err model.NoRoom
-  boot-no_room e = by_storing ∙ ap (model.loaded_where_stored file) e
+too_long : (bytes : List ℕ) → model.is_elf bytes ≡ true → 4194304 < length bytes → boot_of bytes ≡ Err refusal.NoRoom
+unfolding most_file_bytes
+too_long bytes elf long =
+    elf-booted bytes elf ∙ ap told_boot (booted-long default_pages default_quantum bytes (lt-ltb 4194304 (length bytes) long))
 
-  -- why it wasn't stored
-  pub store-fails : (failed : FlatFault) → IsStoreFault failed → (failed ≡ NoRoom → model.stored empty model.init_name file ≡ None)
-      → Boots (model.booted pages quantum file) (Err (fault_ending failed))
-  store-fails NoRoom cause full = boot-no_room (full refl)
-  store-fails NoMemory cause full = tt
-  store-fails ReadFault cause full = absurd cause
-  store-fails WriteFault cause full = absurd cause
-  store-fails (Elf fault) cause full = absurd cause
+-- the walk of `/init` comes to its name in the root
+walked-root : walked empty.files model.init_path ≡ Ok (root_spot (codes "init"))
+unfolding walked walked_in model.empty_machine model.first_inodes at with_at is_dots inode_at
+walked-root = refl
+
+init-spot : init_spot ≡ root_spot (codes "init")
+init-spot = let both : ◌≡◌ {A = Result Spot Errno} (Ok init_spot) (Ok (root_spot (codes "init"))) = sym (init-walked default_pages default_quantum) ∙ walked-root in cc
+
+-- the file was stored
+stored-parts : (file : List ℕ) (after : Unix) → stored empty (codes "init") file ≡ Ok after
+    → (model.is_too_long (model.NewFile file) ≡ false) × (model.with_entry_at empty init_spot (model.NewFile file) ≡ Ok after)
+unfolding stored
+stored-parts file after e = by (model.is_too_long (model.NewFile file)) refl (model.with_entry_at empty (root_spot (codes "init")) (model.NewFile file)) refl e
+  where
+    by : (long : Bool) → model.is_too_long (model.NewFile file) ≡ long → (found : Result Unix Errno) → model.with_entry_at empty (root_spot (codes "init")) (model.NewFile file) ≡ found
+        → ((stop (model.NoRoomFor 0) where_not not long) >> model.or_no_room 0 found) ≡ Ok after
+        → (model.is_too_long (model.NewFile file) ≡ false) × (model.with_entry_at empty init_spot (model.NewFile file) ≡ Ok after)
+    by true long_is found found_is e = cc
+    by false long_is (Err errno) found_is e = cc
+    by false long_is (Ok unix) found_is e =
+        let same : unix ≡ after = cc in
+        (long_is, ap (λ spot. model.with_entry_at empty spot (model.NewFile file)) init-spot ∙ found_is ∙ ap (λ (unix : Unix). Ok unix) same)
+
+-- and is there
+pub boot-named : (file : List ℕ) (after : Unix) → stored empty (codes "init") file ≡ Ok after → file_at after.files model.init_path ≡ Some file
+boot-named file after e = init-found default_pages default_quantum file after (stored-parts file after e).1
+
+pub boot-stored : (file : List ℕ) (after : Unix) → model.is_elf file ≡ true → stored empty (codes "init") file ≡ Ok after → boot_of file ≡ told_boot (model.with_init after)
+boot-stored file after elf e =
+    let parts = stored-parts file after e in
+    elf-booted file elf ∙ ap told_boot (booted-entry default_pages default_quantum file after parts.0 parts.1)
+
+-- there was no room for it
+stored-refused : (file : List ℕ) (refusal : model.BootRefusal) → stored empty (codes "init") file ≡ Err refusal → model.booted_file default_pages default_quantum file ≡ Err (model.NoRoomFor 0)
+unfolding stored
+stored-refused file refusal e = by (model.is_too_long (model.NewFile file)) refl (model.with_entry_at empty (root_spot (codes "init")) (model.NewFile file)) refl e
+  where
+    by : (long : Bool) → model.is_too_long (model.NewFile file) ≡ long → (found : Result Unix Errno) → model.with_entry_at empty (root_spot (codes "init")) (model.NewFile file) ≡ found
+        → ((stop (model.NoRoomFor 0) where_not not long) >> model.or_no_room 0 found) ≡ Err refusal
+        → model.booted_file default_pages default_quantum file ≡ Err (model.NoRoomFor 0)
+    by true long_is found found_is e = booted-long default_pages default_quantum file long_is
+    by false long_is (Ok unix) found_is e = cc
+    by false long_is (Err errno) found_is e =
+        booted-refused default_pages default_quantum file errno long_is (ap (λ spot. model.with_entry_at empty spot (model.NewFile file)) init-spot ∙ found_is)
+
+pub boot-no_room : (file : List ℕ) → model.is_elf file ≡ true → stored empty (codes "init") file ≡ Err (model.NoRoomFor 0) → boot_of file ≡ Err refusal.NoRoom
+boot-no_room file elf e = elf-booted file elf ∙ ap told_boot (stored-refused file (model.NoRoomFor 0) e)
+
+-- why it wasn't stored
+pub store-fails : (file : List ℕ) → model.is_elf file ≡ true → (failed : FlatFault) → IsStoreFault failed → (failed ≡ NoRoom → stored empty (codes "init") file ≡ Err (model.NoRoomFor 0))
+    → Boots (boot_of file) (Err (fault_ending failed))
+store-fails file elf NoRoom cause full = boot-no_room file elf (full refl)
+store-fails file elf NoMemory cause full = tt
+store-fails file elf ReadFault cause full = absurd cause
+store-fails file elf WriteFault cause full = absurd cause
+store-fails file elf (Elf fault) cause full = absurd cause
 
 -- why it wasn't started
-pub start-fails : (booted loaded : Result Unix model.Refusal) (old new : Unix) (failed : FlatFault) → booted ≡ loaded → Starts loaded old new (Err failed) → Boots booted (Err (fault_ending failed))
-start-fails booted loaded old new NoRoom same starts = same ∙ starts.0
-start-fails booted loaded old new (Elf fault) same starts = same ∙ starts.0
+pub start-fails : (booted : Result Unix Refusal) (loaded : Result Unix model.BootRefusal) (old new : Unix) (failed : FlatFault) → booted ≡ told_boot loaded → Starts loaded old new (Err failed) → Boots booted (Err (fault_ending failed))
+start-fails booted loaded old new NoRoom same starts = same ∙ ap told_boot starts.0
+start-fails booted loaded old new (Elf fault) same starts = same ∙ ap told_boot starts.0
 start-fails booted loaded old new NoMemory same starts = tt
 start-fails booted loaded old new ReadFault same starts = starts
 start-fails booted loaded old new WriteFault same starts = starts
 
-module _ {S K : Type 0} (turns pages quantum : ℕ) (left : S → Option (List ℕ)) (grew : K → List ℕ → K → Type 0) (nothing : (s : K) (x : List ℕ) → GrewByPrefix grew s x s) (source : S) (old : K) where
+module _ {S K : Type 0} (turns : ℕ) (left : S → Option (List ℕ)) (grew : K → List ℕ → K → Type 0) (nothing : (s : K) (x : List ℕ) → GrewByPrefix grew s x s) (source : S) (old : K) where
   -- nothing was put yet, whatever is booted
-  unread : (booted : Result Unix model.Refusal) → Ends turns booted left grew source old old ending.ReadFault
+  unread : (booted : Result Unix Refusal) → Ends turns booted left grew source old old ending.ReadFault
   unread (Ok unix) = nothing old _
   unread (Err refusal) = refl
 
-  no_memory : (booted : Result Unix model.Refusal) → Ends turns booted left grew source old old ending.NoMemory
+  no_memory : (booted : Result Unix Refusal) → Ends turns booted left grew source old old ending.NoMemory
   no_memory (Ok unix) = nothing old _
   no_memory (Err refusal) = refl
 
-  refused : (booted : Result Unix model.Refusal) (refusal : Refusal) → booted ≡ Err (refusal_view refusal) → Ends turns booted left grew source old old (ending.Refused refusal)
+  refused : (booted : Result Unix Refusal) (refusal : Refusal) → booted ≡ Err refusal → Ends turns booted left grew source old old (ending.Refused refusal)
   refused booted refusal e = subst (λ found. Ends turns found left grew source old old (ending.Refused refusal)) (sym e) (refl, refl)
 
-  not_built : (bytes : List ℕ) → (slice_index bytes 0 == 0x7F) ≡ false → model.booted pages quantum bytes ≡ Err model.NotBuilt
-  unfolding model.booted
-  not_built bytes other = ap (λ test. if not test then Err model.NotBuilt else model.loaded_where_stored bytes (model.stored (model.empty_machine pages quantum) model.init_name bytes)) other
-
-  too_long : (bytes : List ℕ) → slice_index bytes 0 ≡ 0x7F → 4194304 < length bytes → model.booted pages quantum bytes ≡ Err model.NoRoom
-  unfolding model.most_file_bytes
-  too_long bytes elf long =
-      boot-no_room pages quantum (model.empty_machine pages quantum) bytes refl elf
-      (stored-too_large (model.empty_machine pages quantum) model.init_name bytes (ap (λ test. test || nat_le model.most_places (length (model.places_of (at (model.empty_machine pages quantum).files.inodes 1)))) (lt-ltb 4194304 (length bytes) long)))
-
   -- the file wasn't read
-  pub unread-ends : (bytes : List ℕ) (after : Option (List ℕ)) (ending : Ending) → Reads bytes after (Err ending) → Ends turns (model.booted pages quantum bytes) left grew source old old ending
-  unread-ends bytes after (ending.Refused refusal.NotBuilt) other = refused (model.booted pages quantum bytes) refusal.NotBuilt (not_built bytes other)
-  unread-ends bytes after (ending.Refused refusal.NoRoom) long = refused (model.booted pages quantum bytes) refusal.NoRoom (too_long bytes long.0 long.1)
+  pub unread-ends : (bytes : List ℕ) (after : Option (List ℕ)) (ending : Ending) → Reads bytes after (Err ending) → Ends turns (boot_of bytes) left grew source old old ending
+  unread-ends bytes after (ending.Refused refusal.NotBuilt) other = refused (boot_of bytes) refusal.NotBuilt (not_built bytes other)
+  unread-ends bytes after (ending.Refused refusal.NoRoom) long = refused (boot_of bytes) refusal.NoRoom (too_long bytes long.0 long.1)
   unread-ends bytes after (ending.Refused (refusal.Elf fault)) never = absurd never
-  unread-ends bytes after ending.ReadFault failed = unread (model.booted pages quantum bytes)
-  unread-ends bytes after ending.NoMemory failed = no_memory (model.booted pages quantum bytes)
+  unread-ends bytes after ending.ReadFault failed = unread (boot_of bytes)
+  unread-ends bytes after ending.NoMemory failed = no_memory (boot_of bytes)
   unread-ends bytes after ending.WriteFault never = absurd never
   unread-ends bytes after (ending.Halted word) never = absurd never
   unread-ends bytes after (ending.TurnsSpent made) never = absurd never
+  unread-ends bytes after (ending.Idle made) never = absurd never
   unread-ends bytes after ending.Assembled never = absurd never
   unread-ends bytes after ending.Usage never = absurd never
   unread-ends bytes after (ending.NotAssembled kind line) never = absurd never
 
   -- the machine wasn't booted
-  pub unbooted-ends : (booted : Result Unix model.Refusal) (ending : Ending) → Boots booted (Err ending) → Ends turns booted left grew source old old ending
+  pub unbooted-ends : (booted : Result Unix Refusal) (ending : Ending) → Boots booted (Err ending) → Ends turns booted left grew source old old ending
   unbooted-ends booted (ending.Refused refusal) told = refused booted refusal told
   unbooted-ends booted ending.NoMemory told = no_memory booted
   unbooted-ends booted ending.ReadFault never = absurd never
   unbooted-ends booted ending.WriteFault never = absurd never
   unbooted-ends booted (ending.Halted word) never = absurd never
   unbooted-ends booted (ending.TurnsSpent made) never = absurd never
+  unbooted-ends booted (ending.Idle made) never = absurd never
   unbooted-ends booted ending.Assembled never = absurd never
   unbooted-ends booted ending.Usage never = absurd never
   unbooted-ends booted (ending.NotAssembled kind line) never = absurd never

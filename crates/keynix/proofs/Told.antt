@@ -1,17 +1,16 @@
 -- From the ending that was told to the promise of each status.
-use Rattle.std.proofs.Common.{◌≡◌, ◌≢◌, ℕ, List, [], ◌⊎◌, Option, Some, None, Result, Ok, Err, refl, sym, ap, subst, ◌∙◌, inl, inr, arith}
+use Rattle.std.proofs.Common.{◌≡◌, ◌≢◌, ℕ, List, ◌⊎◌, Option, Some, None, Result, Ok, Err, refl, sym, ap, subst, ◌∙◌, inl, inr, arith}
 use Rattle.kn_io.specs.Sink.{GrewByPrefix}
-use Rattle.unix_model.specs.Boot.{Refusal}
 use Rattle.unix_model.specs.Notes.{spent_note}
-use Rattle.unix_model.specs.Schedule.{Round, unix_run}
 use Rattle.unix_model.specs.State.{Unix}
 use Rattle.unix_model.specs.Words.{Command, Once, Asm}
 use Rattle.rv_asm.specs.Programs as asm
 use Rattle.keynix.specs.declared.ending.Ending.{Ending}
-use Rattle.keynix.specs.declared.ending.Ending.TheVariants.{Halted, TurnsSpent, Assembled, Usage, Refused, NotAssembled, ReadFault, WriteFault, NoMemory}
-use Rattle.keynix.specs.Endings.{Ends, EndsAssembly, IsCaused, KeepsOutput, RunsOn, RefusesAs, WritesFile, WritesPart, refusal_view}
-use Rattle.keynix.specs.Promises.{Answers, ByCommand, HaltsOn, SpendsOn, RefusesInput, RefusesOn, boot_of, stop_status}
-use Rattle.keynix.specs.Telling.{Tells, TakesMemory, PutsNote, PutsPartOfNote, ending_note, ending_status, refusal_note, usage_note, read_fault_note, write_fault_note, no_memory_note}
+use Rattle.keynix.specs.declared.ending.Ending.TheVariants.{Halted, TurnsSpent, Idle, Assembled, Usage, Refused, NotAssembled, ReadFault, WriteFault, NoMemory}
+use Rattle.keynix.specs.declared.ending.Refusal.{Refusal}
+use Rattle.keynix.specs.Endings.{Ends, EndsAssembly, IsCaused, KeepsOutput, RunsOn, RefusesAs, WritesFile, WritesPart, boot_of, run_of}
+use Rattle.keynix.specs.Promises.{Answers, ByCommand, HaltsOn, IdlesOn, SpendsOn, RefusesInput, RefusesOn, stop_status}
+use Rattle.keynix.specs.Telling.{Tells, TakesMemory, PutsNote, PutsPartOfNote, ending_note, ending_status, idle_note, refusal_note, usage_note, read_fault_note, write_fault_note, no_memory_note}
 
 -- a status that no failed note gives is the ending's, and its note was put
 pub status-is : {E : Type 0} (noted : E → List ℕ → E → Type 0) (rose : Type 0) (ending : Ending) (old new : E) (status n : ℕ) → Tells noted rose ending old new status → status ≡ n → n ≢ 4 → n ≢ 6
@@ -29,6 +28,7 @@ module _ {S K E : Type 0} (left : S → Option (List ℕ)) (grew : K → List �
   usage_by (Some Asm) Usage follows e note = absurd follows.0
   usage_by command (Halted word) follows e note = absurd (omega (arith, e))
   usage_by command (TurnsSpent made) follows e note = absurd (omega (arith, e))
+  usage_by command (Idle made) follows e note = absurd (omega (arith, e))
   usage_by command Assembled follows e note = absurd (omega (arith, e))
   usage_by command (Refused refusal) follows e note = absurd (omega (arith, e))
   usage_by command (NotAssembled kind line) follows e note = absurd (omega (arith, e))
@@ -44,6 +44,7 @@ module _ {S K E : Type 0} (left : S → Option (List ℕ)) (grew : K → List �
   halted_by turns bytes (Ok unix) Assembled same never e note = absurd never
   halted_by turns bytes (Err refusal) Assembled same never e note = absurd never
   halted_by turns bytes booted (TurnsSpent made) same ends e note = absurd (omega (arith, e))
+  halted_by turns bytes booted (Idle made) same ends e note = absurd (omega (arith, e))
   halted_by turns bytes booted Usage same ends e note = absurd (omega (arith, e))
   halted_by turns bytes booted (Refused refusal) same ends e note = absurd (omega (arith, e))
   halted_by turns bytes booted (NotAssembled kind line) same ends e note = absurd (omega (arith, e))
@@ -57,6 +58,7 @@ module _ {S K E : Type 0} (left : S → Option (List ℕ)) (grew : K → List �
   written_by meaning Assembled keeps ends e note = (ends, note)
   written_by meaning (Halted word) keeps ends e note = absurd keeps
   written_by meaning (TurnsSpent made) keeps ends e note = absurd keeps
+  written_by meaning (Idle made) keeps ends e note = absurd keeps
   written_by meaning Usage keeps ends e note = absurd keeps
   written_by meaning (Refused refusal) keeps ends e note = absurd keeps
   written_by meaning (NotAssembled kind line) keeps ends e note = absurd (omega (arith, e))
@@ -71,6 +73,7 @@ module _ {S K E : Type 0} (left : S → Option (List ℕ)) (grew : K → List �
   part_written_by whole meaning WriteFault keeps ends = inr ends
   part_written_by whole meaning (Halted word) keeps ends = absurd keeps
   part_written_by whole meaning (TurnsSpent made) keeps ends = absurd keeps
+  part_written_by whole meaning (Idle made) keeps ends = absurd keeps
   part_written_by whole meaning Usage keeps ends = absurd keeps
   part_written_by whole meaning (Refused refusal) keeps ends = absurd keeps
   part_written_by whole meaning (NotAssembled kind line) keeps ends = inl keeps
@@ -90,6 +93,7 @@ module _ {S K E : Type 0} (left : S → Option (List ℕ)) (grew : K → List �
           record { turns = turns; unix = unix; command_is = refl; boots = same; runs = runs.0; notes_grew = subst (λ number. noted notes_old (spent_note number) notes_new) (sym runs.1) note }
       spent_on turns made bytes note (Err refusal) same never = absurd never
   spent_by command (Halted word) follows e note bytes told = absurd (omega (arith, e))
+  spent_by command (Idle made) follows e note bytes told = absurd (omega (arith, e))
   spent_by command Assembled follows e note bytes told = absurd (omega (arith, e))
   spent_by command Usage follows e note bytes told = absurd (omega (arith, e))
   spent_by command (Refused refusal) follows e note bytes told = absurd (omega (arith, e))
@@ -97,6 +101,28 @@ module _ {S K E : Type 0} (left : S → Option (List ℕ)) (grew : K → List �
   spent_by command ReadFault follows e note bytes told = absurd (omega (arith, e))
   spent_by command WriteFault follows e note bytes told = absurd (omega (arith, e))
   spent_by command NoMemory follows e note bytes told = absurd (omega (arith, e))
+
+  -- the machine is idle
+  idle_by : (command : Option Command) (ending : Ending) → ByCommand command left grew read write source_old source_new output_old output_new ending → ending_status ending ≡ 10 → PutsNote noted (ending_note ending) notes_old notes_new
+      → (bytes : List ℕ) → left source_old ≡ Some bytes → IdlesOn command bytes left grew noted source_new output_old output_new notes_old notes_new
+  idle_by None (Idle made) follows e note bytes told = cc
+  idle_by (Some Asm) (Idle made) follows e note bytes told = absurd follows.1
+  idle_by (Some (Once turns)) (Idle made) follows e note bytes told = idle_on turns made bytes note (boot_of bytes) refl (follows.1 bytes told)
+    where
+      idle_on : (turns made : ℕ) (bytes : List ℕ) → noted notes_old (idle_note made) notes_new → (booted : Result Unix Refusal) → boot_of bytes ≡ booted → Ends turns booted left grew source_new output_old output_new (Idle made)
+          → IdlesOn (Some (Once turns)) bytes left grew noted source_new output_old output_new notes_old notes_new
+      idle_on turns made bytes note (Ok unix) same runs =
+          record { turns = turns; unix = unix; command_is = refl; boots = same; runs = runs.0; notes_grew = subst (λ number. noted notes_old (idle_note number) notes_new) (sym runs.1) note }
+      idle_on turns made bytes note (Err refusal) same never = absurd never
+  idle_by command (Halted word) follows e note bytes told = absurd (omega (arith, e))
+  idle_by command (TurnsSpent made) follows e note bytes told = absurd (omega (arith, e))
+  idle_by command Assembled follows e note bytes told = absurd (omega (arith, e))
+  idle_by command Usage follows e note bytes told = absurd (omega (arith, e))
+  idle_by command (Refused refusal) follows e note bytes told = absurd (omega (arith, e))
+  idle_by command (NotAssembled kind line) follows e note bytes told = absurd (omega (arith, e))
+  idle_by command ReadFault follows e note bytes told = absurd (omega (arith, e))
+  idle_by command WriteFault follows e note bytes told = absurd (omega (arith, e))
+  idle_by command NoMemory follows e note bytes told = absurd (omega (arith, e))
 
   -- the input is refused
   refused_by : (command : Option Command) (ending : Ending) → ByCommand command left grew read write source_old source_new output_old output_new ending → ending_status ending ≡ 2 → PutsNote noted (ending_note ending) notes_old notes_new
@@ -113,13 +139,14 @@ module _ {S K E : Type 0} (left : S → Option (List ℕ)) (grew : K → List �
       never (Err refusal) ends = absurd ends
   refused_by (Some (Once turns)) (Refused refusal) follows e note bytes told = refused_on turns refusal bytes note (boot_of bytes) refl (follows.1 bytes told)
     where
-      refused_on : (turns : ℕ) (refusal : _) (bytes : List ℕ) → noted notes_old (refusal_note (refusal_view refusal)) notes_new → (booted : Result Unix Refusal) → boot_of bytes ≡ booted → Ends turns booted left grew source_new output_old output_new (Refused refusal)
+      refused_on : (turns : ℕ) (refusal : _) (bytes : List ℕ) → noted notes_old (refusal_note refusal) notes_new → (booted : Result Unix Refusal) → boot_of bytes ≡ booted → Ends turns booted left grew source_new output_old output_new (Refused refusal)
           → RefusesInput bytes noted output_old output_new notes_old notes_new
       refused_on turns refusal bytes note (Ok unix) same never = absurd never
       refused_on turns refusal bytes note (Err why) same refuses =
           record { refusal = why; boots = same; output_stays = refuses.1; notes_grew = subst (λ told. noted notes_old (refusal_note told) notes_new) (sym refuses.0) note }
   refused_by command (Halted word) follows e note bytes told = absurd (omega (arith, e))
   refused_by command (TurnsSpent made) follows e note bytes told = absurd (omega (arith, e))
+  refused_by command (Idle made) follows e note bytes told = absurd (omega (arith, e))
   refused_by command Assembled follows e note bytes told = absurd (omega (arith, e))
   refused_by command Usage follows e note bytes told = absurd (omega (arith, e))
   refused_by command ReadFault follows e note bytes told = absurd (omega (arith, e))
@@ -134,6 +161,7 @@ module _ {S K E : Type 0} (left : S → Option (List ℕ)) (grew : K → List �
   read_by (Some Asm) ReadFault follows e note = (follows.0, note)
   read_by command (Halted word) follows e note = absurd (omega (arith, e))
   read_by command (TurnsSpent made) follows e note = absurd (omega (arith, e))
+  read_by command (Idle made) follows e note = absurd (omega (arith, e))
   read_by command Assembled follows e note = absurd (omega (arith, e))
   read_by command Usage follows e note = absurd (omega (arith, e))
   read_by command (Refused refusal) follows e note = absurd (omega (arith, e))
@@ -152,6 +180,9 @@ module _ {S K E : Type 0} (left : S → Option (List ℕ)) (grew : K → List �
     pub spent-told : status ≡ 9 → (bytes : List ℕ) → left source_old ≡ Some bytes → SpendsOn command bytes left grew noted source_new output_old output_new notes_old notes_new
     spent-told e = let is = status-is noted rose answers.ending notes_old notes_new status 9 answers.told e (omega arith) (omega arith) in spent_by command answers.ending answers.follows is.0 is.1
 
+    pub idle-told : status ≡ 10 → (bytes : List ℕ) → left source_old ≡ Some bytes → IdlesOn command bytes left grew noted source_new output_old output_new notes_old notes_new
+    idle-told e = let is = status-is noted rose answers.ending notes_old notes_new status 10 answers.told e (omega arith) (omega arith) in idle_by command answers.ending answers.follows is.0 is.1
+
     pub refused-told : status ≡ 2 → (bytes : List ℕ) → left source_old ≡ Some bytes → RefusesOn command bytes noted output_old output_new notes_old notes_new
     refused-told e = let is = status-is noted rose answers.ending notes_old notes_new status 2 answers.told e (omega arith) (omega arith) in refused_by command answers.ending answers.follows is.0 is.1
 
@@ -168,6 +199,7 @@ module _ {S K E : Type 0} (left : S → Option (List ℕ)) (grew : K → List �
         cause (Some Asm) follows = follows.0
     written (Halted word) follows e = absurd (omega (arith, e))
     written (TurnsSpent made) follows e = absurd (omega (arith, e))
+    written (Idle made) follows e = absurd (omega (arith, e))
     written Assembled follows e = absurd (omega (arith, e))
     written Usage follows e = absurd (omega (arith, e))
     written (Refused refusal) follows e = absurd (omega (arith, e))
@@ -188,6 +220,7 @@ module _ {S K E : Type 0} (left : S → Option (List ℕ)) (grew : K → List �
     note_part whole WriteFault e note = (WriteFault, write_fault_note, refl, whole notes_old notes_new write_fault_note note)
     note_part whole (Halted word) e note = absurd (omega (arith, e))
     note_part whole (TurnsSpent made) e note = absurd (omega (arith, e))
+    note_part whole (Idle made) e note = absurd (omega (arith, e))
     note_part whole Assembled e note = absurd (omega (arith, e))
     note_part whole Usage e note = absurd (omega (arith, e))
     note_part whole (Refused refusal) e note = absurd (omega (arith, e))
@@ -208,6 +241,7 @@ module _ {S K E : Type 0} (left : S → Option (List ℕ)) (grew : K → List �
     no_memory_by NoMemory e note = note
     no_memory_by (Halted word) e note = absurd (omega (arith, e))
     no_memory_by (TurnsSpent made) e note = absurd (omega (arith, e))
+    no_memory_by (Idle made) e note = absurd (omega (arith, e))
     no_memory_by Assembled e note = absurd (omega (arith, e))
     no_memory_by Usage e note = absurd (omega (arith, e))
     no_memory_by (Refused refusal) e note = absurd (omega (arith, e))
@@ -237,9 +271,10 @@ module _ {S K E : Type 0} (left : S → Option (List ℕ)) (grew : K → List �
 
     -- the output got a front of what the run puts, and all of it where the run was made whole
     part_by : (whole : (a b : K) (x : List ℕ) → grew a x b → GrewByPrefix grew a x b) (turns : ℕ) (unix : Unix) (ending : Ending) → RunsOn turns unix left grew source_new output_old output_new ending
-        → GrewByPrefix grew output_old (unix_run turns unix Round []).put output_new
+        → GrewByPrefix grew output_old (run_of turns unix).put output_new
     part_by whole turns unix (Halted word) runs = whole output_old output_new _ runs.output_grew
     part_by whole turns unix (TurnsSpent made) runs = whole output_old output_new _ runs.0.output_grew
+    part_by whole turns unix (Idle made) runs = whole output_old output_new _ runs.0.output_grew
     part_by whole turns unix ReadFault runs = runs
     part_by whole turns unix WriteFault runs = runs
     part_by whole turns unix NoMemory runs = runs
@@ -258,7 +293,7 @@ module _ {S K E : Type 0} (left : S → Option (List ℕ)) (grew : K → List �
         halted_by turns bytes (boot_of bytes) answers.ending refl (ends_on turns bytes given told) is.0 is.1
 
     pub part-told : ((a b : K) (x : List ℕ) → grew a x b → GrewByPrefix grew a x b) → (turns : ℕ) (bytes : List ℕ) (unix : Unix) → command ≡ Some (Once turns) → left source_old ≡ Some bytes → boot_of bytes ≡ Ok unix
-        → GrewByPrefix grew output_old (unix_run turns unix Round []).put output_new
+        → GrewByPrefix grew output_old (run_of turns unix).put output_new
     part-told whole turns bytes unix given told boots =
         part_by whole turns unix answers.ending (subst (λ booted. Ends turns booted left grew source_new output_old output_new answers.ending) boots (ends_on turns bytes given told))
 
@@ -275,9 +310,10 @@ module _ {S K E : Type 0} (left : S → Option (List ℕ)) (grew : K → List �
         by (inr (inr told)) = absurd (enough told.0)
 
     complete_by : (turns : ℕ) (unix : Unix) (ending : Ending) → RunsOn turns unix left grew source_new output_old output_new ending → IsCaused read write ending → ¬ read → ¬ write → ending_status ending ≢ 6
-        → ending_status ending ≡ stop_status (unix_run turns unix Round []).stop
+        → ending_status ending ≡ stop_status (run_of turns unix).stop
     complete_by turns unix (Halted word) runs cause no_read no_write enough = sym (ap stop_status runs.stop_is)
     complete_by turns unix (TurnsSpent made) runs cause no_read no_write enough = sym (ap stop_status runs.0.stop_is)
+    complete_by turns unix (Idle made) runs cause no_read no_write enough = sym (ap stop_status runs.0.stop_is)
     complete_by turns unix ReadFault runs cause no_read no_write enough = absurd (no_read cause)
     complete_by turns unix WriteFault runs cause no_read no_write enough = absurd (no_write cause)
     complete_by turns unix NoMemory runs cause no_read no_write enough = absurd (enough refl)
@@ -287,7 +323,7 @@ module _ {S K E : Type 0} (left : S → Option (List ℕ)) (grew : K → List �
     complete_by turns unix (NotAssembled kind line) runs cause no_read no_write enough = absurd runs
 
     pub complete-told : (turns : ℕ) (bytes : List ℕ) (unix : Unix) → command ≡ Some (Once turns) → left source_old ≡ Some bytes → boot_of bytes ≡ Ok unix → ¬ read → ¬ write → ¬ rose → status ≢ 6
-        → status ≡ stop_status (unix_run turns unix Round []).stop
+        → status ≡ stop_status (run_of turns unix).stop
     complete-told turns bytes unix given told boots no_read no_write quiet enough =
         let is : status ≡ ending_status answers.ending = status_by quiet enough in
         is ∙ complete_by turns unix answers.ending (subst (λ booted. Ends turns booted left grew source_new output_old output_new answers.ending) boots (ends_on turns bytes given told))
@@ -300,6 +336,7 @@ module _ {S K E : Type 0} (left : S → Option (List ℕ)) (grew : K → List �
     refuses_by refusal WriteFault refuses cause no_read enough = absurd refuses
     refuses_by refusal (Halted word) refuses cause no_read enough = absurd refuses
     refuses_by refusal (TurnsSpent made) refuses cause no_read enough = absurd refuses
+    refuses_by refusal (Idle made) refuses cause no_read enough = absurd refuses
     refuses_by refusal Assembled refuses cause no_read enough = absurd refuses
     refuses_by refusal Usage refuses cause no_read enough = absurd refuses
     refuses_by refusal (NotAssembled kind line) refuses cause no_read enough = absurd refuses
@@ -338,6 +375,7 @@ module _ {S K E : Type 0} (left : S → Option (List ℕ)) (grew : K → List �
     output_where NoMemory keeps told some other = keeps
     output_where (Halted word) keeps told some other = absurd keeps
     output_where (TurnsSpent made) keeps told some other = absurd keeps
+    output_where (Idle made) keeps told some other = absurd keeps
     output_where Usage keeps told some other = absurd keeps
     output_where (Refused refusal) keeps told some other = absurd keeps
 
@@ -353,6 +391,7 @@ module _ {S K E : Type 0} (left : S → Option (List ℕ)) (grew : K → List �
     assembles_by program NoMemory ends cause no_read no_write enough = absurd (enough refl)
     assembles_by program (Halted word) ends cause no_read no_write enough = absurd ends
     assembles_by program (TurnsSpent made) ends cause no_read no_write enough = absurd ends
+    assembles_by program (Idle made) ends cause no_read no_write enough = absurd ends
     assembles_by program Usage ends cause no_read no_write enough = absurd ends
     assembles_by program (Refused refusal) ends cause no_read no_write enough = absurd ends
 
@@ -370,6 +409,7 @@ module _ {S K E : Type 0} (left : S → Option (List ℕ)) (grew : K → List �
     refused_by_meaning refusal NoMemory ends cause no_read enough = absurd (enough refl)
     refused_by_meaning refusal (Halted word) ends cause no_read enough = absurd ends
     refused_by_meaning refusal (TurnsSpent made) ends cause no_read enough = absurd ends
+    refused_by_meaning refusal (Idle made) ends cause no_read enough = absurd ends
     refused_by_meaning refusal Usage ends cause no_read enough = absurd ends
     refused_by_meaning refusal (Refused told) ends cause no_read enough = absurd ends
 

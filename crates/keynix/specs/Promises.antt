@@ -1,20 +1,15 @@
 -- What each status of the program promises.
-use Rattle.std.specs.Prelude.{◌≡◌, ℕ, List, [], Option, Some, None, Result, Ok, Err}
+use Rattle.std.specs.Prelude.{◌≡◌, ℕ, List, Option, Some, None, Ok, Err}
 use Rattle.rv_asm.specs.Programs as asm
-use Rattle.unix_model.specs.Boot.{Refusal, booted}
-use Rattle.unix_model.specs.Machine.{Stop, Halted, PlanDone, Going}
+use Rattle.unix_model.specs.Machine.{Stop, Halted, Idle, PlanDone, Going}
 use Rattle.unix_model.specs.Notes.{halted_note, spent_note}
-use Rattle.unix_model.specs.Schedule.{Round, unix_run}
 use Rattle.unix_model.specs.State.{Unix}
-use Rattle.unix_model.specs.Words.{Command, Once, Asm, default_pages, default_quantum}
+use Rattle.unix_model.specs.Words.{Command, Once, Asm}
 use Rattle.keynix.specs.declared.ending.Ending.{Ending}
 use Rattle.keynix.specs.declared.ending.Ending.TheVariants.{Usage}
-use Rattle.keynix.specs.Endings.{Ends, EndsAssembly, IsCaused, KeepsOutput, RunsWhole}
-use Rattle.keynix.specs.Telling.{Tells, refusal_note, source_note}
-
--- the machine that an input boots
-abbrev pub boot_of : List ℕ → Result Unix Refusal
-boot_of bytes = booted default_pages default_quantum bytes
+use Rattle.keynix.specs.declared.ending.Refusal.{Refusal}
+use Rattle.keynix.specs.Endings.{Ends, EndsAssembly, IsCaused, KeepsOutput, RunsWhole, boot_of, run_of}
+use Rattle.keynix.specs.Telling.{Tells, idle_note, refusal_note, source_note}
 
 -- The machine of the input halted: the output got the bytes that the run puts, the notes the note of its wait word, and
 -- nothing is left of the input.
@@ -32,7 +27,16 @@ pub record SpendsOn {S K E : Type 0} (command : Option Command) (bytes : List �
   pub command_is : command ≡ Some (Once turns)
   pub boots : boot_of bytes ≡ Ok unix
   pub runs : RunsWhole turns unix left grew source output_old output_new Going
-  pub notes_grew : noted notes_old (spent_note (unix_run turns unix Round []).turns) notes_new
+  pub notes_grew : noted notes_old (spent_note (run_of turns unix).turns) notes_new
+
+-- The machine of the input is idle after some turns: likewise, with the note of their number.
+pub record IdlesOn {S K E : Type 0} (command : Option Command) (bytes : List ℕ) (left : S → Option (List ℕ)) (grew : K → List ℕ → K → Type 0) (noted : E → List ℕ → E → Type 0) (source : S) (output_old output_new : K) (notes_old notes_new : E) : Type 0 where
+  pub turns : ℕ
+  pub unix : Unix
+  pub command_is : command ≡ Some (Once turns)
+  pub boots : boot_of bytes ≡ Ok unix
+  pub runs : RunsWhole turns unix left grew source output_old output_new Idle
+  pub notes_grew : noted notes_old (idle_note (run_of turns unix).turns) notes_new
 
 -- The input isn't booted: the notes got the note of why, and the output nothing.
 pub record RefusesInput {K E : Type 0} (bytes : List ℕ) (noted : E → List ℕ → E → Type 0) (output_old output_new : K) (notes_old notes_new : E) : Type 0 where
@@ -57,6 +61,7 @@ RefusesOn (Some Asm) bytes noted output_old output_new notes_old notes_new = Ref
 -- the status of a run that ended so
 abbrev pub stop_status : Stop → ℕ
 stop_status (Halted word) = 0
+stop_status Idle = 10
 stop_status PlanDone = 9
 stop_status Going = 9
 

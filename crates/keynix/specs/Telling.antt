@@ -2,16 +2,17 @@
 use Rattle.std.specs.Prelude.{◌≡◌, ℕ, List, Option, Some, None, ◌⊎◌, ◌++◌, codes}
 use Rattle.std.specs.Fmt.{decimal}
 use Rattle.kn_io.specs.Sink.{GrewByPrefix}
-use Rattle.unix_model.specs.Boot as model
-use Rattle.unix_model.specs.Notes.{halted_note, spent_note}
+use Rattle.unix_model.specs.Machine as machine
+use Rattle.unix_model.specs.Notes.{halted_note, spent_note, stop_note}
 use Rattle.unix_model.specs.declared.elf.ElfFault.{ElfFault}
 use Rattle.unix_model.specs.declared.elf.ElfFault.TheVariants.{Short, NotElf, NotRv32, NotStatic, BadHeader, BadSegment, TooMany}
 use Rattle.rv_asm.specs.declared.fault.AsmKind.{AsmKind}
 use Rattle.rv_asm.specs.declared.fault.AsmKind.TheVariants.{Syntax, UnknownLabel, DoubleLabel, OutOfRange, TooLong}
 use Rattle.rv_asm.specs.Programs as asm
 use Rattle.keynix.specs.declared.ending.Ending.{Ending}
-use Rattle.keynix.specs.declared.ending.Ending.TheVariants.{Halted, TurnsSpent, Assembled, Usage, Refused, NotAssembled, ReadFault, WriteFault, NoMemory}
-use Rattle.keynix.specs.Endings.{refusal_view}
+use Rattle.keynix.specs.declared.ending.Ending.TheVariants.{Halted, TurnsSpent, Idle, Assembled, Usage, Refused, NotAssembled, ReadFault, WriteFault, NoMemory}
+use Rattle.keynix.specs.declared.ending.Refusal.{Refusal}
+use Rattle.keynix.specs.declared.ending.Refusal.TheVariants as refusal
 
 -- the name of the kind of a refused ELF file
 abbrev pub elf_kind : ElfFault → List ℕ
@@ -24,13 +25,13 @@ elf_kind BadSegment = codes "BadSegment"
 elf_kind TooMany = codes "TooMany"
 
 -- the name of the kind of an input that isn't booted
-abbrev pub kind : model.Refusal → List ℕ
-kind model.NotBuilt = codes "NotBuilt"
-kind model.NoRoom = codes "NoRoom"
-kind (model.Elf fault) = elf_kind fault
+abbrev pub kind : Refusal → List ℕ
+kind refusal.NotBuilt = codes "NotBuilt"
+kind refusal.NoRoom = codes "NoRoom"
+kind (refusal.Elf fault) = elf_kind fault
 
 -- the note of an input that isn't booted; its line is 0
-unfoldable pub refusal_note : model.Refusal → List ℕ
+unfoldable pub refusal_note : Refusal → List ℕ
 refusal_note refusal = codes "bad input " ++ kind refusal ++ codes " 0\n"
 
 -- the name of the kind of a refused source
@@ -44,6 +45,10 @@ source_kind TooLong = codes "TooLong"
 -- the note of a refused source, with the line that is refused
 unfoldable pub source_note : asm.Refusal → List ℕ
 source_note refusal = codes "bad input " ++ source_kind refusal.kind ++ codes " " ++ decimal refusal.line ++ codes "\n"
+
+-- the note of a machine that is idle after so many turns
+unfoldable pub idle_note : ℕ → List ℕ
+idle_note turns = stop_note machine.Idle turns
 
 unfoldable pub usage_note : List ℕ
 usage_note = codes "usage: keynix DISK COMMAND [--name=value]\n"
@@ -61,9 +66,10 @@ no_memory_note = codes "no memory\n"
 abbrev pub ending_note : Ending → Option (List ℕ)
 ending_note (Halted word) = Some (halted_note word)
 ending_note (TurnsSpent turns) = Some (spent_note turns)
+ending_note (Idle turns) = Some (idle_note turns)
 ending_note Assembled = None
 ending_note Usage = Some usage_note
-ending_note (Refused refusal) = Some (refusal_note (refusal_view refusal))
+ending_note (Refused refusal) = Some (refusal_note refusal)
 ending_note (NotAssembled kind line) = Some (source_note (record { kind = kind; line = line }))
 ending_note ReadFault = Some read_fault_note
 ending_note WriteFault = Some write_fault_note
@@ -79,11 +85,13 @@ ending_status ReadFault = 3
 ending_status WriteFault = 4
 ending_status NoMemory = 6
 ending_status (TurnsSpent turns) = 9
+ending_status (Idle turns) = 10
 
 -- the note of an ending takes host memory
 abbrev pub TakesMemory : Ending → Type 0
 TakesMemory (Halted word) = Unit {0}
 TakesMemory (TurnsSpent turns) = Unit {0}
+TakesMemory (Idle turns) = Unit {0}
 TakesMemory Assembled = ⊥
 TakesMemory Usage = ⊥
 TakesMemory (Refused refusal) = ⊥

@@ -21,6 +21,8 @@ pub enum Ending {
     Halted(u32),
     /// All turns were made, so many.
     TurnsSpent(u64),
+    /// After so many turns the machine is idle: no turn would change anything any more.
+    Idle(u64),
     /// The source was assembled, and its file written.
     Assembled,
     /// The words are no command.

@@ -4,8 +4,7 @@ ghost use Rattle.std.specs.Prelude.{◌≡◌, ◌≤◌, Some, IfOk, string_byt
 ghost use Rattle.kn_io.specs.Faults.{Rose};
 ghost use Rattle.kn_io.specs.Sink.{GrewByPrefix};
 ghost use Rattle.unix_model.specs.Notes.{halted_note, spent_note};
-ghost use Rattle.keynix.specs.Telling.{Tells, TakesMemory, ending_note, ending_status, refusal_note, source_kind, source_note};
-ghost use Rattle.keynix.specs.Endings.{refusal_view};
+ghost use Rattle.keynix.specs.Telling.{Tells, TakesMemory, ending_note, ending_status, idle_note, refusal_note, source_kind, source_note};
 
 use crate::ending::{Ending, Refusal};
 use elf_read::ElfFault;
@@ -30,6 +29,7 @@ fn status_of(ending: Ending) -> u8
         Ending::WriteFault => 4,
         Ending::NoMemory => 6,
         Ending::TurnsSpent(_) => 9,
+        Ending::Idle(_) => 10,
     }
 }
 
@@ -54,10 +54,18 @@ fn spent(alloc: Global, turns: u64) -> Result<String, AllocError>
     format!(in alloc; "turns spent {turns}\n")
 }
 
+/// After how many turns the machine is idle.
+#[tactic(auto, unfolding(crate::specs::Telling::idle_note))]
+fn idle(alloc: Global, turns: u64) -> Result<String, AllocError>
+    ensures { IfOk result (λ note. string_bytes note ≡ idle_note turns) }
+{
+    format!(in alloc; "idle {turns}\n")
+}
+
 /// The note of an input that isn't booted.
 #[tactic(auto, unfolding(crate::specs::Telling::refusal_note))]
 fn refused(refusal: Refusal) -> &'static [u8]
-    ensures { result.now ≡ refusal_note (refusal_view refusal) }
+    ensures { result.now ≡ refusal_note refusal }
 {
     match refusal {
         Refusal::NotBuilt => b"bad input NotBuilt 0\n",
@@ -131,6 +139,7 @@ pub fn finish<E: Sink>(alloc: Global, notes: &mut E, ending: Ending) -> Status
     match ending {
         Ending::Halted(word) => tell_text(notes, ending, halted(alloc, word)),
         Ending::TurnsSpent(turns) => tell_text(notes, ending, spent(alloc, turns)),
+        Ending::Idle(turns) => tell_text(notes, ending, idle(alloc, turns)),
         Ending::Assembled => Status(status_of(ending)),
         Ending::Usage => tell(
             notes,

@@ -1,11 +1,12 @@
 //! The command `once`: an ELF file is booted in memory and runs.
 
-ghost use Rattle.std.specs.Prelude.{◌≡◌, ◌≤◌, ℕ, List, [], Some, IfErr, IfOk, slice_index};
+ghost use Rattle.std.specs.Prelude.{◌≡◌, ◌≤◌, ℕ, List, [], Some, true, IfErr, IfOk};
 ghost use Rattle.kn_io.specs.Faults.{Rose};
-ghost use Rattle.unix_model.specs.Boot.{booted};
-ghost use Rattle.unix_model.specs.Words.{default_pages, default_quantum};
+ghost use Rattle.unix_model.specs.Boot.{is_elf};
+ghost use Rattle.unix_model.specs.Schedule.{Round, ends_idle, mark_at};
 ghost use Rattle.flat_unix.specs.FlatView.{unix_of};
-ghost use Rattle.keynix.specs.Endings.{Boots, Ends, IsCaused, Reads, RunsOn, fault_ending};
+ghost use Rattle.flat_unix.specs.ServedCalls.{served_calls};
+ghost use Rattle.keynix.specs.Endings.{Boots, Ends, IsCaused, Reads, RunsOn, boot_of, fault_ending};
 
 use crate::ending::{Ending, Refusal};
 use flat_unix::{Flat, FlatFault};
@@ -25,7 +26,7 @@ const DEFAULT_QUANTUM: u32 = 100;
 
 /// Boots the input, an ELF file, in memory, and runs it for at most so many turns.
 pub fn once<S: Source, K: Sink>(alloc: Global, turns: u64, input: &mut S, output: &mut K) -> Ending
-    ensures ends { (bytes : List ℕ) → S.left input.old ≡ Some bytes → Ends turns (booted default_pages default_quantum bytes) S.left K.grew input.new output.old output.new result }
+    ensures ends { (bytes : List ℕ) → S.left input.old ≡ Some bytes → Ends turns (boot_of bytes) S.left K.grew input.new output.old output.new result }
     ensures caused { IsCaused (Rose (S.faults input.old) (S.faults input.new)) (Rose (K.faults output.old) (K.faults output.new)) result }
     ensures input_counted { S.faults input.old ≤ S.faults input.new }
     ensures output_counted { K.faults output.old ≤ K.faults output.new }
@@ -44,7 +45,7 @@ pub fn once<S: Source, K: Sink>(alloc: Global, turns: u64, input: &mut S, output
 /// The bytes of an ELF file, up to the input's end.
 fn read_file<S: Source>(alloc: Global, input: &mut S) -> Result<Vec<u8>, Ending>
     ensures reads { (bytes : List ℕ) → S.left input.old ≡ Some bytes → Reads bytes (S.left input.new) result }
-    ensures elf { IfOk result (λ file. slice_index file.items 0 ≡ 0x7F) }
+    ensures elf { IfOk result (λ file. is_elf file.items ≡ true) }
     ensures caused { IfErr result (IsCaused (Rose (S.faults input.old) (S.faults input.new)) ⊥) }
     ensures counted { S.faults input.old ≤ S.faults input.new }
 {
@@ -66,10 +67,10 @@ fn read_file<S: Source>(alloc: Global, input: &mut S) -> Result<Vec<u8>, Ending>
 }
 
 /// A machine with the program of a file loaded.
-#[tactic(auto, unfolding(unix_model::specs::Boot::booted, unix_model::specs::Words::default_pages, unix_model::specs::Words::default_quantum))]
+#[tactic(auto, unfolding(unix_model::specs::Words::default_pages, unix_model::specs::Words::default_quantum))]
 fn boot(alloc: Global, file: &[u8]) -> Result<Flat, Ending>
-    requires { slice_index file.now 0 ≡ 0x7F }
-    ensures { Boots (booted default_pages default_quantum file.now) result }
+    requires { is_elf file.now ≡ true }
+    ensures { Boots (boot_of file.now) result }
 {
     let mut flat = match Flat::new(alloc, DEFAULT_PAGES, DEFAULT_QUANTUM) {
         Ok(flat) => flat,
@@ -111,6 +112,7 @@ fn run<S: Source, K: Sink>(
     ensures input_counted { S.faults input.old ≤ S.faults input.new }
     ensures output_counted { K.faults output.old ≤ K.faults output.new }
 {
+    let mut mark = mark_at(flat, None);
     for made in 0..turns {
         match flat.halted() {
             Some(word) => return Ending::Halted(word.0),
@@ -121,9 +123,37 @@ fn run<S: Source, K: Sink>(
             Ok(_) => {}
             Err(failed) => return fault(failed),
         }
+        if ends_idle(flat, mark) {
+            return match flat.halted() {
+                Some(word) => Ending::Halted(word.0),
+                None => Ending::Idle(made + 1),
+            };
+        }
+        mark = mark_at(flat, mark);
     }
     match flat.halted() {
         Some(word) => Ending::Halted(word.0),
         None => Ending::TurnsSpent(turns),
+    }
+}
+
+/// Where a round begins, whether the machine is idle, and else the mark of the round so far.
+fn mark_at(flat: &Flat, mark: Option<bool>) -> Option<bool>
+    ensures { result ≡ mark_at served_calls (unix_of flat.now) mark }
+{
+    if flat.position() == 0 {
+        Some(flat.is_idle())
+    } else {
+        mark
+    }
+}
+
+/// Whether a turn has ended a round that began idle.
+fn ends_idle(flat: &Flat, mark: Option<bool>) -> bool
+    ensures { result ≡ ends_idle (unix_of flat.now) (Round mark) }
+{
+    match mark {
+        Some(idle) => flat.position() == 0 && idle,
+        None => false,
     }
 }

@@ -212,6 +212,42 @@ fn a_fault_is_a_signal(rt: HostRuntime) -> Result<(), Fail> {
 }
 
 #[test]
+fn a_store_over_two_pages_needs_both(rt: HostRuntime) -> Result<(), Fail> {
+    // `sw a2, -2(a1)` to 0x1_1FFE, and a write of the eight bytes round the end of the page, in a segment that may be
+    // written to and has two pages, or a byte more.
+    let mut file = file_of(
+        rt.alloc(),
+        &[
+            lui(A1, 0x12),
+            lui(A2, 0x87654),
+            addi(A2, A2, 0x321),
+            0xFEC5_AF23,
+            addi(A0, 0, 1),
+            addi(A1, A1, 0xFFC),
+            addi(A2, 0, 8),
+            addi(A7, 0, 12),
+            ECALL,
+            addi(A0, 0, 7),
+            addi(A7, 0, 1),
+            ECALL,
+        ],
+    )?;
+    for (low, note, written) in [
+        (0, "halted signal 11\n", b"".as_slice()),
+        (1, "halted 7\n", b"\x00\x00\x21\x43\x65\x87\x00\x00"),
+    ] {
+        if file.len() > 76 {
+            file[72] = low;
+            file[73] = 0x20;
+            file[76] = 7;
+        }
+        let output = check_once(&rt, &file, 0, note)?;
+        assert_eq!(rt; output.as_slice(), written);
+    }
+    Ok(())
+}
+
+#[test]
 fn refusals_of_calls_are_negated_errnos(rt: HostRuntime) -> Result<(), Fail> {
     // An unknown call, a closed descriptor and an address that isn't mapped; exit gives the value's low byte.
     for (number, descriptor, page, code) in [

@@ -13,8 +13,6 @@ mod mem_source;
 mod reading;
 mod sink;
 mod source;
-#[cfg(test)]
-mod tests;
 
 pub use adapters::{ReadSource, WriteSink};
 pub use byte_source::ByteSource;

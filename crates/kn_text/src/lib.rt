@@ -7,8 +7,6 @@
 mod lines;
 mod numbers;
 mod slices;
-#[cfg(test)]
-mod tests;
 
 pub use lines::{LineFault, LineReader};
 pub use numbers::{NumberFault, number_of};

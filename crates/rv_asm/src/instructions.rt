@@ -23,7 +23,7 @@ pub struct Layout<'a> {
 }
 
 /// The instructions of one statement.
-#[derive(Clone, Copy, Debug, PartialEq, Eq)]
+#[derive(Clone, Copy)]
 pub enum Instructions {
     NoneOf,
     One(Instr),

@@ -9,7 +9,7 @@ use crate::quoted::text_length;
 use crate::statement::Statement;
 
 /// How far the parts are, and which of them goes on.
-#[derive(Clone, Copy, Debug, PartialEq, Eq)]
+#[derive(Clone, Copy)]
 pub struct Position {
     pub part: Part,
     pub text_bytes: u64,
@@ -74,7 +74,7 @@ pub fn address_of(place: Place, text_bytes: u64) -> u128
 }
 
 /// A place in a part.
-#[derive(Clone, Copy, Debug, PartialEq, Eq)]
+#[derive(Clone, Copy)]
 pub struct Place {
     pub part: Part,
     /// In bytes from the part's beginning.

@@ -14,20 +14,14 @@ mod labels;
 mod laws;
 mod layout;
 mod letters;
-#[cfg(test)]
-mod line_tests;
 mod lines;
 mod mnemonics;
 mod operands;
 mod program;
 mod quoted;
 mod ranges;
-#[cfg(test)]
-mod reading_tests;
 mod scan;
 mod statement;
-#[cfg(test)]
-mod tests;
 mod text_statements;
 
 pub use assembler::assemble;

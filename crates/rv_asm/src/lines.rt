@@ -67,7 +67,7 @@ pub fn name_and_rest(text: &[u8]) -> (&[u8], &[u8])
 }
 
 /// Where a byte of a line stands.
-#[derive(Clone, Copy, Debug, PartialEq, Eq)]
+#[derive(Clone, Copy)]
 pub enum Quoting {
     /// Outside of quotes.
     Outside,

@@ -6,7 +6,7 @@ ghost use Rattle.rv_asm.specs.Mnemonics as model;
 use unix_model::{BranchOp, ImmOp, LoadOp, RegOp, StoreOp};
 
 /// The parts of a program.
-#[derive(Clone, Copy, Debug, PartialEq, Eq)]
+#[derive(Clone, Copy)]
 pub enum Part {
     /// Instructions. A source begins here.
     Text,
@@ -15,7 +15,7 @@ pub enum Part {
 }
 
 /// What a statement in the part of instructions says.
-#[derive(Clone, Copy, Debug, PartialEq, Eq)]
+#[derive(Clone, Copy)]
 pub enum Mnemonic {
     Lui,
     Auipc,
@@ -41,7 +41,7 @@ pub enum Mnemonic {
 }
 
 /// What a statement in the part of bytes says.
-#[derive(Clone, Copy, Debug, PartialEq, Eq)]
+#[derive(Clone, Copy)]
 pub enum Directive {
     Word,
     Byte,

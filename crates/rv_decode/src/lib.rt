@@ -12,8 +12,6 @@ mod laws;
 mod numbers;
 mod operations;
 mod ranges;
-#[cfg(test)]
-mod tests;
 
 pub use decoder::decode;
 pub use encoder::encode;

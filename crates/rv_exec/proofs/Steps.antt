@@ -7,7 +7,7 @@ use Rattle.unix_model.specs.declared.instructions.Instr.{Instr}
 use Rattle.unix_model.specs.declared.instructions.Instr.TheVariants.{Lui, Auipc, Jal, Jalr, Branch, Load, Store, OpImm, Op, Fence, Ecall, Ebreak}
 use Rattle.unix_model.specs.declared.instructions.Outcome.TheVariants.{Next, Fault}
 use Rattle.unix_model.specs.declared.instructions.Regs.{Regs}
-use Rattle.unix_model.specs.Execution.{Begun, Executed, executed, executed_word, executed_instruction, accessed, loaded, stops, goes_on, begun, begun_by, faulted, address_of, is_taken, register, load_size, store_size}
+use Rattle.unix_model.specs.Execution.{Begun, Executed, executed, executed_word, executed_instruction, accessed, loaded, stops, goes_on, begun, begun_by, faulted, address_of, is_taken, register_word, load_size, store_size}
 use Rattle.unix_model.specs.Instructions.{decoded}
 use Rattle.unix_model.specs.Memory.{Memory, word_at, bytes_at, all_writable}
 use Rattle.unix_model.specs.Numbers.{plus_signed}
@@ -53,7 +53,7 @@ instr_stops regs memory (Lui rd imm) = inl refl
 instr_stops regs memory (Auipc rd imm) = inl refl
 instr_stops regs memory (Jal rd imm) = jump_stops regs _ (Some (Jal rd imm)) memory (plus_signed regs.pc imm % 4 == 0)
 instr_stops regs memory (Jalr rd rs1 imm) = jump_stops regs _ (Some (Jalr rd rs1 imm)) memory (address_of regs rs1 imm / 2 * 2 % 4 == 0)
-instr_stops regs memory (Branch op rs1 rs2 imm) = branch_stops regs _ (Some (Branch op rs1 rs2 imm)) memory (is_taken op (register regs rs1) (register regs rs2)) (plus_signed regs.pc imm % 4 == 0)
+instr_stops regs memory (Branch op rs1 rs2 imm) = branch_stops regs _ (Some (Branch op rs1 rs2 imm)) memory (is_taken op (register_word regs rs1) (register_word regs rs2)) (plus_signed regs.pc imm % 4 == 0)
 instr_stops regs memory (Load op rd rs1 imm) = load_stops regs (Some (Load op rd rs1 imm)) memory (bytes_at memory (address_of regs rs1 imm) (load_size op))
 instr_stops regs memory (Store op rs1 rs2 imm) = store_stops regs _ memory _ _ (all_writable memory (address_of regs rs1 imm) (store_size op)) (inr (refl, refl))
 instr_stops regs memory (OpImm op rd rs1 imm) = inl refl

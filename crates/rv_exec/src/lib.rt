@@ -12,8 +12,6 @@ mod operations;
 mod registers;
 mod step;
 mod stores;
-#[cfg(test)]
-mod tests;
 
 pub use laws::step_law;
 pub use step::{begin, end_load, end_store};

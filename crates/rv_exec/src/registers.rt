@@ -1,7 +1,7 @@
 //! Registers and the address of the next instruction.
 
 ghost use Rattle.std.specs.Prelude.{◌≡◌, ◌<◌};
-ghost use Rattle.unix_model.specs.Execution.{register as register_of, with_register, at_next, next_pc as next_pc_of, address_of, jumps, writes, goes_on as goes_on_of};
+ghost use Rattle.unix_model.specs.Execution.{register_word as register_of, with_register, at_next, next_pc as next_pc_of, address_of, jumps, writes, goes_on as goes_on_of};
 ghost use Rattle.rv_exec.specs.Sound.{IsSound};
 
 use unix_model::{Access, Cause, Outcome, Regs};

@@ -1,10 +1,9 @@
 pub mod Splitting
 pub mod TableLaws
 pub mod MemoryLaws
-pub mod EnterLaws
-pub mod TurnLaws
+pub mod CountLaws
 pub mod RoomLaws
 pub mod BootLaws
-pub mod StoredLaws
+pub mod TurnLaws
 pub mod RunLaws
 pub mod TextLaws

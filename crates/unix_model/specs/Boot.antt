@@ -1,20 +1,25 @@
--- The machine at its start. Inode 0 is the console and inode 1 the root directory. A file that is stored gets the least
--- free inode and the next place of the root. Then `/init` is loaded in slot 0 as process 1, with the string `/init` as
--- its one argument, and descriptors 0 to 2 that share one description of the console.
-use Rattle.std.specs.Prelude.{ℕ, true, false, not, ◌&&◌, ◌||◌, List, [], ◌∷◌, ◌++◌, length, replicate, slice_index, Option, Some, None, is_none, codes, Result, Ok, Err, bytes_eq, ◌==◌, nat_lt, nat_le, if◌then◌else◌}
-use Rattle.std.specs.Option.{option_and_then}
+-- The machine at its start. Inode 0 is the console and inode 1 the root directory. Each entry in order gets the least free
+-- inode and the next place of its directory. Then `/init` is loaded in slot 0 as process 1, with the string `/init` as its
+-- one argument, and descriptors 0 to 2 that share one description of the console.
+use Rattle.std.specs.Prelude.{ℕ, ◌+◌, ◌-◌, Bool, true, false, not, List, [], ◌∷◌, ◌++◌, length, replicate, slice_index, Option, Some, None, is_some, codes, Result, Ok, Err, ◌==◌, nat_lt, if◌then◌else◌}
+use Rattle.unix_model.specs.declared.calls.Errno.{Errno}
+use Rattle.unix_model.specs.declared.calls.Errno.TheVariants.{Eexist}
 use Rattle.unix_model.specs.declared.elf.ElfFault.{ElfFault}
 use Rattle.unix_model.specs.Elf.{LoadPlan, plan_of}
-use Rattle.unix_model.specs.Files.{Files, Inode, File, Directory, Pipe, Console, Entry, Description}
+use Rattle.unix_model.specs.Files.{Inode, File, Directory, Console, Description, console_inode, root_inode, with_description}
+use Rattle.unix_model.specs.Limits.{descriptor_count, most_file_bytes}
 use Rattle.unix_model.specs.Loading.{image, start_registers}
+use Rattle.unix_model.specs.NameCalls.{made, with_made}
+use Rattle.unix_model.specs.Paths.{Spot, walked, file_at}
 use Rattle.unix_model.specs.Process.{Process, Run}
+use Rattle.unix_model.specs.Refusals.{◌>>=◌, ◌>>◌, refuse◌when◌}
 use Rattle.unix_model.specs.Room.{has_room}
 use Rattle.unix_model.specs.State.{Unix, with_process}
-use Rattle.unix_model.specs.Tables.{at, with_at, nothing, least_below, option_or}
+use Rattle.unix_model.specs.Tables.{with_at, nothing}
 
 -- the console and the empty root, which is its own parent
 unfoldable pub first_inodes : ℕ → Option Inode
-first_inodes = with_at (with_at nothing 0 (Some Console)) 1 (Some (Directory 1 []))
+first_inodes = with_at (with_at nothing console_inode (Some Console)) root_inode (Some (Directory root_inode []))
 
 -- the machine of P pages and the quantum Q before anything is stored
 unfoldable pub empty_machine : ℕ → ℕ → Unix
@@ -28,98 +33,82 @@ empty_machine pages quantum =
       position = 0;
     }
 
--- the least free inode number, or None where all 1,024 are taken; the console's and the root's never are free
-unfoldable pub free_inode : (ℕ → Option Inode) → Option ℕ
-free_inode inodes = least_below (λ n. nat_le 2 n && is_none (at inodes n)) 1024
+-- ---- the entries
 
--- the directory with an entry at its end
-abbrev pub with_entry : Option Inode → Entry → Option Inode
-with_entry (Some (Directory parent places)) entry = Some (Directory parent (places ++ Some entry ∷ []))
-with_entry (Some (File bytes)) entry = Some (File bytes)
-with_entry (Some (Pipe bytes)) entry = Some (Pipe bytes)
-with_entry (Some Console) entry = Some Console
-with_entry None entry = None
+-- what an entry makes
+pub data Node : Type 0 where
+  NewDirectory : Node
+  NewFile : (bytes : List ℕ) → Node
 
--- the inodes with an entry more in the root
-abbrev pub with_root_entry : (ℕ → Option Inode) → Entry → ℕ → Option Inode
-with_root_entry inodes entry = with_at inodes 1 (with_entry (at inodes 1) entry)
+pub record BootEntry : Type 0 where
+  pub path : List ℕ
+  pub node : Node
 
--- the state with a new file of this name in the root, at a free inode number
-abbrev pub with_file : Unix → List ℕ → List ℕ → ℕ → Unix
-with_file unix name bytes number =
-    record unix {
-      files = record unix.files {
-        inodes = with_root_entry (with_at unix.files.inodes number (Some (File bytes))) (record { name = name; inode = number });
-      };
-    }
+-- its inode, in this directory
+abbrev pub node_inode : ℕ → Node → Inode
+node_inode directory NewDirectory = Directory directory []
+node_inode directory (NewFile bytes) = File bytes
 
--- the places of a directory
-abbrev pub places_of : Option Inode → List (Option Entry)
-places_of (Some (Directory parent places)) = places
-places_of (Some (File bytes)) = []
-places_of (Some (Pipe bytes)) = []
-places_of (Some Console) = []
-places_of None = []
+-- a file that is too long
+abbrev pub is_too_long : Node → Bool
+is_too_long NewDirectory = false
+is_too_long (NewFile bytes) = nat_lt most_file_bytes (length bytes)
 
--- at most this many bytes are in a file, and this many places in a directory
-unfoldable pub most_file_bytes : ℕ
-most_file_bytes = 4194304
+-- why a list of entries isn't booted
+pub data BootRefusal : Type 0 where
+  -- for the entry of this number, from 0, there is no inode, no place or no room, it is a file that is too long, or its
+  -- path isn't a new one in a directory that is there
+  NoRoomFor : (entry : ℕ) → BootRefusal
+  -- there is no file `/init`
+  NoProgram : BootRefusal
+  -- `/init` isn't a program that can be loaded
+  BadProgram : ElfFault → BootRefusal
+  -- there is no room for the program's memory
+  NoRoomToStart : BootRefusal
 
-unfoldable pub most_places : ℕ
-most_places = 1024
+-- a test of boot: where it doesn't hold, it is refused
+infix 5 stop◌where_not◌
+abbrev pub stop◌where_not◌ : BootRefusal → Bool → Result (Unit {0}) BootRefusal
+stop refusal where_not test = if test then Ok tt else Err refusal
 
--- a state that has room
-abbrev pub if_room : Unix → Option Unix
-if_room unix = if has_room unix then Some unix else None
+-- the state with an entry more at a spot, where nothing stands yet
+abbrev pub with_entry_at : Unix → Spot → Node → Result Unix Errno
+with_entry_at unix spot node = do
+  refuse Eexist when is_some spot.inode
+  inode ← made unix spot (node_inode spot.directory node)
+  Ok (with_made unix spot inode (node_inode spot.directory node))
 
--- the state with a new file at an inode number, where there is one
-abbrev pub stored_at : Unix → List ℕ → List ℕ → Option ℕ → Option Unix
-stored_at unix name bytes None = None
-stored_at unix name bytes (Some number) = if_room (with_file unix name bytes number)
+-- the state with an entry more
+unfoldable pub with_boot_entry : Unix → BootEntry → Result Unix Errno
+with_boot_entry unix entry = do
+  spot ← walked unix.files entry.path
+  with_entry_at unix spot entry.node
 
--- the state with a new file of this name in the root; None where the file is too long, or a place, an inode or room is
--- missing
-unfoldable pub stored : Unix → List ℕ → List ℕ → Option Unix
-stored unix name bytes =
-    if nat_lt most_file_bytes (length bytes) || nat_le most_places (length (places_of (at unix.files.inodes 1))) then None else
-    stored_at unix name bytes (free_inode unix.files.inodes)
+-- where it is refused, the entry's number says so
+abbrev pub or_no_room : ℕ → Result Unix Errno → Result Unix BootRefusal
+or_no_room number (Ok unix) = Ok unix
+or_no_room number (Err errno) = Err (NoRoomFor number)
 
--- the inode of a place that has this name
-abbrev pub place_inode : List ℕ → Option Entry → Option ℕ
-place_inode name None = None
-place_inode name (Some entry) = if bytes_eq entry.name name then Some entry.inode else None
+-- the state with these entries, the first of which has this number
+unfoldable pub with_boot_entries : ℕ → Unix → List BootEntry → Result Unix BootRefusal
+with_boot_entries number unix [] = Ok unix
+with_boot_entries number unix (entry ∷ entries) = do
+  stop (NoRoomFor number) where_not not (is_too_long entry.node)
+  next ← or_no_room number (with_boot_entry unix entry)
+  with_boot_entries (number + 1) next entries
 
--- the inode of the first place with this name
-abbrev pub inode_named : List (Option Entry) → List ℕ → Option ℕ
-inode_named [] name = None
-inode_named (place ∷ places) name = option_or (place_inode name place) (inode_named places name)
-
--- the bytes of a file
-abbrev pub bytes_of : Option Inode → Option (List ℕ)
-bytes_of (Some (File bytes)) = Some bytes
-bytes_of (Some (Directory parent places)) = None
-bytes_of (Some (Pipe bytes)) = None
-bytes_of (Some Console) = None
-bytes_of None = None
-
--- the bytes of the file of this name in the root
-unfoldable pub file_named : Files → List ℕ → Option (List ℕ)
-file_named files name = option_and_then (λ number. bytes_of (at files.inodes number)) (inode_named (places_of (at files.inodes 1)) name)
+-- ---- the first process
 
 -- the console, open for reading and writing
 abbrev pub console_description : Description
-console_description = record { inode = 0; readable = true; writable = true; append = false; offset = 0 }
+console_description = record { inode = console_inode; readable = true; writable = true; append = false; offset = 0 }
 
--- the files with an open description at a number
-abbrev pub with_description : Files → ℕ → Description → Files
-with_description files number description = record files { descriptions = with_at files.descriptions number (Some description) }
-
--- the first program's name, and its argument
-abbrev pub init_name : List ℕ
-init_name = codes "init"
+-- the first program's path, which is also its one argument
+abbrev pub init_path : List ℕ
+init_path = codes "/init"
 
 abbrev pub init_arguments : List (List ℕ)
-init_arguments = codes "/init" ∷ []
+init_arguments = init_path ∷ []
 
 -- process 1 as it is loaded from a file with its plan
 unfoldable pub first_process : List ℕ → LoadPlan → Process
@@ -131,7 +120,7 @@ first_process file plan =
       memory = image file plan.loads init_arguments;
       break_start = plan.break_start;
       break_end = plan.break_start;
-      descriptors = replicate 3 (Some 0) ++ replicate 29 None;
+      descriptors = replicate 3 (Some 0) ++ replicate (descriptor_count - 3) None;
       phase = Run;
     }
 
@@ -144,32 +133,39 @@ with_first_process unix process =
 abbrev pub started : Unix → List ℕ → LoadPlan → Unix
 started unix file plan = with_first_process unix (first_process file plan)
 
--- why an input isn't booted
-pub data Refusal : Type 0 where
-  -- it is neither an ELF file nor anything else that can be booted yet
-  NotBuilt : Refusal
-  NoRoom : Refusal
-  Elf : ElfFault → Refusal
+-- ---- boot
 
--- the machine, unless it has no room
-abbrev pub or_no_room : Option Unix → Result Unix Refusal
-or_no_room None = Err NoRoom
-or_no_room (Some unix) = Ok unix
+-- the program, or why it isn't one
+abbrev pub or_no_program : Option (List ℕ) → Result (List ℕ) BootRefusal
+or_no_program None = Err NoProgram
+or_no_program (Some file) = Ok file
 
--- the machine with the program of a stored file loaded
-abbrev pub loaded : List ℕ → Unix → Result LoadPlan ElfFault → Result Unix Refusal
-loaded file unix (Err fault) = Err (Elf fault)
-loaded file unix (Ok plan) = or_no_room (if_room (started unix file plan))
+abbrev pub or_bad_program : Result LoadPlan ElfFault → Result LoadPlan BootRefusal
+or_bad_program (Ok plan) = Ok plan
+or_bad_program (Err fault) = Err (BadProgram fault)
 
--- the same, where the file could be stored
-abbrev pub loaded_where_stored : List ℕ → Option Unix → Result Unix Refusal
-loaded_where_stored file None = Err NoRoom
-loaded_where_stored file (Some unix) = loaded file unix (plan_of file)
+-- `/init` is loaded
+unfoldable pub with_init : Unix → Result Unix BootRefusal
+with_init unix = do
+  file ← or_no_program (file_at unix.files init_path)
+  plan ← or_bad_program (plan_of file)
+  stop NoRoomToStart where_not has_room (started unix file plan)
+  Ok (started unix file plan)
 
--- Boot of an input that is one ELF file: the file is stored, and then loaded. What is refused, in this order: an input
--- that doesn't begin with 7F; a file that is too long, or for which and for the root there is no room; what the plan
--- refuses; a program for which there is no room.
-unfoldable pub booted : ℕ → ℕ → List ℕ → Result Unix Refusal
-booted pages quantum file =
-    if not (slice_index file 0 == 0x7F) then Err NotBuilt else
-    loaded_where_stored file (stored (empty_machine pages quantum) init_name file)
+-- Boot of a list of entries with the pages P and the quantum Q
+unfoldable pub booted : (pages quantum : ℕ) → List BootEntry → Result Unix BootRefusal
+booted pages quantum entries = do
+  unix ← with_boot_entries 0 (empty_machine pages quantum) entries
+  with_init unix
+
+-- an ELF file begins with 7F; no other input can be booted yet
+abbrev pub is_elf : List ℕ → Bool
+is_elf input = slice_index input 0 == 0x7F
+
+-- the one entry that an ELF file stands for
+abbrev pub init_entry : (file : List ℕ) → BootEntry
+init_entry file = record { path = init_path; node = NewFile file }
+
+-- Boot of one ELF file: of the entry `/init`
+unfoldable pub booted_file : (pages quantum : ℕ) → (file : List ℕ) → Result Unix BootRefusal
+booted_file pages quantum file = booted pages quantum (init_entry file ∷ [])

@@ -1,15 +1,42 @@
 -- The numbers of system calls and of refusals.
 use Rattle.std.specs.Prelude.{ℕ, ◌-◌, ◌^◌, ◌==◌, Option, Some, None, if◌then◌else◌}
 use Rattle.unix_model.specs.declared.calls.Call.{Call}
-use Rattle.unix_model.specs.declared.calls.Call.TheVariants.{Exit, Write}
+use Rattle.unix_model.specs.declared.calls.Call.TheVariants.{Exit, Fork, Exec, Wait, Waitpid, Getpid, Getppid, Brk, Open, Close, Read, Write, Lseek, Dup, Dup2, Pipe, Mkdir, Rmdir, Unlink, Link, Rename, Fstat, Getdents, Ftruncate, Kill}
 use Rattle.unix_model.specs.declared.calls.Errno.{Errno}
 use Rattle.unix_model.specs.declared.calls.Errno.TheVariants.{Eperm, Enoent, Esrch, E2big, Enoexec, Ebadf, Echild, Eagain, Enomem, Eacces, Efault, Ebusy, Eexist, Enotdir, Eisdir, Einval, Enfile, Emfile, Efbig, Enospc, Espipe, Epipe, Enametoolong, Enosys, Enotempty, Eoverflow}
 
+-- which numbers ask for which calls: a table, since a machine may serve a part of them
+abbrev pub Calls : Type 0
+Calls = ℕ → Option Call
+
 -- the call that a number in a7 asks for
-abbrev pub call_of : ℕ → Option Call
+unfoldable pub call_of : Calls
 call_of number =
     if number == 1 then Some Exit else
+    if number == 2 then Some Fork else
+    if number == 3 then Some Exec else
+    if number == 4 then Some Wait else
+    if number == 5 then Some Waitpid else
+    if number == 6 then Some Getpid else
+    if number == 7 then Some Getppid else
+    if number == 8 then Some Brk else
+    if number == 9 then Some Open else
+    if number == 10 then Some Close else
+    if number == 11 then Some Read else
     if number == 12 then Some Write else
+    if number == 13 then Some Lseek else
+    if number == 14 then Some Dup else
+    if number == 15 then Some Dup2 else
+    if number == 16 then Some Pipe else
+    if number == 17 then Some Mkdir else
+    if number == 18 then Some Rmdir else
+    if number == 19 then Some Unlink else
+    if number == 20 then Some Link else
+    if number == 21 then Some Rename else
+    if number == 22 then Some Fstat else
+    if number == 23 then Some Getdents else
+    if number == 24 then Some Ftruncate else
+    if number == 25 then Some Kill else
     None
 
 -- the number of a refusal
@@ -42,5 +69,5 @@ errno_number Enotempty = 39
 errno_number Eoverflow = 75
 
 -- what a refused call leaves in a0: the number negated, modulo 2^32
-abbrev pub refusal : Errno → ℕ
-refusal errno = 2 ^ 32 - errno_number errno
+abbrev pub refusal_word : Errno → ℕ
+refusal_word errno = 2 ^ 32 - errno_number errno

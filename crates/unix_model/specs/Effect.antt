@@ -1,76 +1,53 @@
--- A system call at the server that answers it: a line for each call. The result is the state after it with the process
--- in Done, Run or Exiting, the bytes taken from the console's input and left there, and the bytes put to its output; or
--- Blocked, with nothing changed.
-use Rattle.std.specs.Prelude.{ℕ, ◌*◌, ◌%◌, List, [], Option, Some, None, length, slice_index, ◌==◌, if◌then◌else◌}
-use Rattle.unix_model.specs.declared.calls.Call.{Call}
-use Rattle.unix_model.specs.declared.calls.Call.TheVariants.{Exit, Write}
-use Rattle.unix_model.specs.declared.calls.Errno.TheVariants.{Ebadf, Enosys}
-use Rattle.unix_model.specs.declared.calls.Turned.{Turned}
-use Rattle.unix_model.specs.declared.calls.Turned.TheVariants.{Worked, Free}
-use Rattle.unix_model.specs.Calls.{refusal}
-use Rattle.unix_model.specs.Enter.{answered}
-use Rattle.unix_model.specs.Files.{Files, Inode, File, Directory, Pipe, Console, inode_of_number}
-use Rattle.unix_model.specs.Process.{Process, Request, Phase, Exiting, descriptor, in_phase}
-use Rattle.unix_model.specs.State.{Unix, with_process}
+-- What the servers answer to system calls, and the words of their lines. A line is refused by its first test that says
+-- so. Else the call waits, or goes through at once with all its changes.
+use Rattle.std.specs.Prelude.{ℕ, ◌-◌, Bool, List, [], take, length, Result, Ok, Err, slice_index, slice_index_or, ◌==◌}
+use Rattle.std.specs.List.{slice_split}
+use Rattle.unix_model.specs.declared.calls.Errno.{Errno}
+use Rattle.unix_model.specs.declared.calls.Turned.TheVariants.{Worked}
+use Rattle.unix_model.specs.Process.{Process, SentCall, answered, answered_with, refused}
+use Rattle.unix_model.specs.State.{Unix, with_phase, with_process}
+use Rattle.unix_model.specs.TurnRecord.{Turn, worked_turn, blocked_turn}
 
--- what a turn gives: the state after it, its answer, the input's bytes that it took and those that it left, and the
--- bytes that it put
-pub record Turn : Type 0 where
-  pub state : Unix
-  pub answer : Turned
-  pub taken : List ℕ
-  pub left : List ℕ
-  pub put : List ℕ
+pub data Effect : Type 0 where
+  -- the call has to wait, and nothing changes
+  Waits : Effect
+  -- the state after it
+  Goes : Unix → Effect
+  -- the same, with bytes taken from the console's input, and those that it left there
+  Takes : (state : Unix) (taken left : List ℕ) → Effect
+  -- the same, with bytes put to the console
+  Puts : (state : Unix) (put : List ℕ) → Effect
 
--- a step that takes and puts nothing
-abbrev pub worked : Unix → List ℕ → Turn
-worked unix input = record { state = unix; answer = Worked; taken = []; left = input; put = [] }
+-- a line of the table
+abbrev pub Line : Type 0
+Line = Result Effect Errno
 
--- a step that puts bytes
-abbrev pub worked_putting : Unix → List ℕ → List ℕ → Turn
-worked_putting unix input bytes = record { state = unix; answer = Worked; taken = []; left = input; put = bytes }
+-- the call is answered with a value
+abbrev pub replies : Unix → ℕ → Process → ℕ → Line
+replies unix slot process value = Ok (Goes (with_phase unix slot process (answered value)))
 
--- nothing is there to do
-abbrev pub idle : Unix → List ℕ → Turn
-idle unix input = record { state = unix; answer = Free; taken = []; left = input; put = [] }
+-- the same, with bytes for the memory from an address on
+abbrev pub replies_with : Unix → ℕ → Process → ℕ → ℕ → List ℕ → Line
+replies_with unix slot process value address bytes = Ok (Goes (with_phase unix slot process (answered_with value address bytes)))
 
--- the process goes on in this phase
-abbrev pub goes_on : Unix → ℕ → Process → Phase → Unix
-goes_on unix slot process phase = with_process unix slot (in_phase process phase)
+-- a call's arguments by their numbers
+abbrev pub argument_of : SentCall → ℕ → ℕ
+argument_of sent number = slice_index sent.arguments number
 
--- exit(code): the low byte of the code is the process's wait status (POSIX.1, _exit)
-abbrev pub exit_effect : Unix → ℕ → Process → Request → List ℕ → Turn
-exit_effect unix slot process request input =
-    worked (goes_on unix slot process (Exiting (256 * (slice_index request.arguments 0 % 256)))) input
+-- the texts that a call brings, each of which ends with a NUL
+abbrev pub is_nul : ℕ → Bool
+is_nul byte = byte == 0
 
--- an answer to a call, and the bytes that it puts to the console
-pub record Answer : Type 0 where
-  pub phase : Phase
-  pub put : List ℕ
+unfoldable pub texts_of : SentCall → List (List ℕ)
+texts_of sent = take (length (slice_split is_nul sent.bytes) - 1) (slice_split is_nul sent.bytes)
 
--- an answer that puts nothing
-abbrev pub answers : ℕ → Answer
-answers value = record { phase = answered value; put = [] }
+abbrev pub text_of : SentCall → ℕ → List ℕ
+text_of sent number = slice_index_or (texts_of sent) number []
 
--- write to an inode: to the console, all bytes. Other inodes can't be open for writing yet
-abbrev pub write_to : List ℕ → Option Inode → Answer
-write_to bytes (Some Console) = record { phase = answered (length bytes); put = bytes }
-write_to bytes (Some (File old)) = answers (refusal Enosys)
-write_to bytes (Some (Directory parent places)) = answers (refusal Enosys)
-write_to bytes (Some (Pipe old)) = answers (refusal Enosys)
-write_to bytes None = answers (refusal Ebadf)
-
--- write(descriptor, address, count): 0 bytes do nothing (POSIX.1, write)
-abbrev pub write_answer : Files → Process → Request → Answer
-write_answer files process request =
-    if length request.bytes == 0 then answers 0 else
-    write_to request.bytes (inode_of_number files (descriptor process (slice_index request.arguments 0)))
-
--- the process goes on with this answer
-abbrev pub goes_on_with : Unix → ℕ → Process → List ℕ → Answer → Turn
-goes_on_with unix slot process input answer = worked_putting (goes_on unix slot process answer.phase) input answer.put
-
--- a line for each call
-abbrev pub call_effect : Unix → ℕ → Process → Request → List ℕ → Call → Turn
-call_effect unix slot process request input Exit = exit_effect unix slot process request input
-call_effect unix slot process request input Write = goes_on_with unix slot process input (write_answer unix.files process request)
+-- the turn of a call: one that is refused is answered with its errno, and changes nothing else
+abbrev pub settled : Unix → ℕ → Process → List ℕ → Line → Turn
+settled unix slot process input (Err errno) = worked_turn (with_process unix slot (refused process errno)) input
+settled unix slot process input (Ok Waits) = blocked_turn unix input
+settled unix slot process input (Ok (Goes state)) = worked_turn state input
+settled unix slot process input (Ok (Takes state taken left)) = record { state = state; answer = Worked; taken = taken; left = left; put = [] }
+settled unix slot process input (Ok (Puts state put)) = record { state = state; answer = Worked; taken = []; left = input; put = put }

@@ -1,19 +1,27 @@
 -- A turn of one slot, the machine's atomic step: by the phase of its process one instruction, one message to the
 -- keeper, one answer of a server, one return of an answer, or one step of an exit.
-use Rattle.std.specs.Prelude.{◌≡◌, ℕ, List, Option, Some, None}
+use Rattle.std.specs.Prelude.{◌≡◌, ℕ, List, Option, Some, None, drop, Err}
 use Rattle.unix_model.specs.declared.calls.Turned.{Turned}
 use Rattle.unix_model.specs.declared.instructions.Cause.{Cause}
 use Rattle.unix_model.specs.declared.instructions.Cause.TheVariants.{Illegal, BadTarget, BadFetch, BadLoad, BadStore}
 use Rattle.unix_model.specs.declared.instructions.Outcome.{Outcome}
 use Rattle.unix_model.specs.declared.instructions.Outcome.TheVariants.{Next, Call, Break, Fault}
-use Rattle.unix_model.specs.Effect.{Turn, worked, idle, goes_on, call_effect}
+use Rattle.unix_model.specs.declared.calls.Call.{Call as SystemCall}
+use Rattle.unix_model.specs.declared.calls.Call.TheVariants.{Exit, Fork, Exec, Wait, Waitpid, Getpid, Getppid, Brk, Open, Close, Read, Write, Lseek, Dup, Dup2, Pipe, Mkdir, Rmdir, Unlink, Link, Rename, Fstat, Getdents, Ftruncate, Kill}
+use Rattle.unix_model.specs.declared.calls.Errno.TheVariants.{Enosys}
+use Rattle.unix_model.specs.Calls.{Calls}
+use Rattle.unix_model.specs.Effect.{Line, settled, argument_of, text_of, texts_of}
 use Rattle.unix_model.specs.Enter.{entered}
 use Rattle.unix_model.specs.Execution.{executed, with_register, at_next}
+use Rattle.unix_model.specs.FileCalls.{close_line, read_line, write_line, lseek_line, dup_line, dup2_line, pipe_line, fstat_line, getdents_line, ftruncate_line}
 use Rattle.unix_model.specs.Memory.{with_bytes}
-use Rattle.unix_model.specs.Process.{Process, Phase, Run, Asked, Sent, Done, Exiting, Zombie, descriptor, without_descriptor, zombie}
-use Rattle.unix_model.specs.State.{Unix, with_process, with_description_released, adopted, position_after}
-use Rattle.unix_model.specs.Tables.{at, least_below}
-use Rattle.std.specs.Option.{is_some, option_map}
+use Rattle.unix_model.specs.NameCalls.{open_line, mkdir_line, rmdir_line, unlink_line, link_line, rename_line}
+use Rattle.unix_model.specs.Process.{Process, SentCall, Phase, Run, Asked, Sent, Done, Exiting, Zombie, descriptor, lowest_open, zombie}
+use Rattle.unix_model.specs.ProcessCalls.{exit_line, fork_line, exec_line, wait_line, waitpid_line, kill_line}
+use Rattle.unix_model.specs.State.{Unix, with_process, with_descriptor_closed, adopted, position_after}
+use Rattle.unix_model.specs.Tables.{at}
+use Rattle.unix_model.specs.TurnRecord.{Turn, worked_turn, free_turn}
+use Rattle.std.specs.Option.{option_map}
 
 -- the signal of a fault (POSIX.1, signal.h, with the numbers of Linux): SIGILL, SIGBUS, or SIGSEGV
 abbrev pub signal_of : Cause → ℕ
@@ -49,43 +57,62 @@ returned process value address bytes =
 abbrev pub with_orphans_adopted : ℕ → Unix → Unix
 with_orphans_adopted ended unix = record unix { processes = λ slot. option_map (adopted ended) (at unix.processes slot) }
 
--- the state after a process closed one of its descriptors
-abbrev pub with_descriptor_closed : Unix → ℕ → Process → ℕ → Option ℕ → Unix
-with_descriptor_closed unix slot process number None = unix
-with_descriptor_closed unix slot process number (Some description) =
-    with_description_released (with_process unix slot (without_descriptor process number)) description
-
 -- the lowest descriptor is closed; where none is open, the process becomes a zombie
 abbrev pub exit_step : Unix → ℕ → Process → ℕ → Option ℕ → Unix
 exit_step unix slot process word (Some lowest) = with_descriptor_closed unix slot process lowest (descriptor process lowest)
 exit_step unix slot process word None = with_orphans_adopted process.pid (with_process unix slot (zombie process word))
 
--- the lowest descriptor that is open
-unfoldable pub lowest_open : Process → Option ℕ
-lowest_open process = least_below (λ number. is_some (descriptor process number)) 32
+-- a line for each call, with its arguments
+abbrev pub call_line : Unix → ℕ → Process → List ℕ → SentCall → SystemCall → Line
+call_line unix slot process input sent Exit = exit_line unix slot process (argument_of sent 0)
+call_line unix slot process input sent Fork = fork_line unix slot process
+call_line unix slot process input sent Exec = exec_line unix slot process (text_of sent 0) (drop 1 (texts_of sent))
+call_line unix slot process input sent Wait = wait_line unix slot process (argument_of sent 0)
+call_line unix slot process input sent Waitpid = waitpid_line unix slot process (argument_of sent 0) (argument_of sent 1) (argument_of sent 2)
+call_line unix slot process input sent Open = open_line unix slot process (text_of sent 0) (argument_of sent 1)
+call_line unix slot process input sent Close = close_line unix slot process (argument_of sent 0)
+call_line unix slot process input sent Read = read_line unix slot process input (argument_of sent 0) (argument_of sent 1) (argument_of sent 2)
+call_line unix slot process input sent Write = write_line unix slot process (argument_of sent 0) sent.bytes
+call_line unix slot process input sent Lseek = lseek_line unix slot process (argument_of sent 0) (argument_of sent 1) (argument_of sent 2)
+call_line unix slot process input sent Dup = dup_line unix slot process (argument_of sent 0)
+call_line unix slot process input sent Dup2 = dup2_line unix slot process (argument_of sent 0) (argument_of sent 1)
+call_line unix slot process input sent Pipe = pipe_line unix slot process (argument_of sent 0)
+call_line unix slot process input sent Mkdir = mkdir_line unix slot process (text_of sent 0)
+call_line unix slot process input sent Rmdir = rmdir_line unix slot process (text_of sent 0)
+call_line unix slot process input sent Unlink = unlink_line unix slot process (text_of sent 0)
+call_line unix slot process input sent Link = link_line unix slot process (text_of sent 0) (text_of sent 1)
+call_line unix slot process input sent Rename = rename_line unix slot process (text_of sent 0) (text_of sent 1)
+call_line unix slot process input sent Fstat = fstat_line unix slot process (argument_of sent 0) (argument_of sent 1)
+call_line unix slot process input sent Getdents = getdents_line unix slot process (argument_of sent 0) (argument_of sent 1) (argument_of sent 2)
+call_line unix slot process input sent Ftruncate = ftruncate_line unix slot process (argument_of sent 0) (argument_of sent 1)
+call_line unix slot process input sent Kill = kill_line unix slot process (argument_of sent 0) (argument_of sent 1)
+-- these are answered by the keeper, and never sent
+call_line unix slot process input sent Getpid = Err Enosys
+call_line unix slot process input sent Getppid = Err Enosys
+call_line unix slot process input sent Brk = Err Enosys
 
 -- by the phase of the process
-abbrev pub turned_in : Unix → ℕ → Process → List ℕ → Phase → Turn
-turned_in unix slot process input Run = worked (with_process unix slot (ran process)) input
-turned_in unix slot process input Asked = worked (goes_on unix slot process (entered unix process)) input
-turned_in unix slot process input (Sent request) = call_effect unix slot process request input request.call
-turned_in unix slot process input (Done value address bytes) = worked (with_process unix slot (returned process value address bytes)) input
-turned_in unix slot process input (Exiting word) = worked (exit_step unix slot process word (lowest_open process)) input
-turned_in unix slot process input (Zombie word) = idle unix input
+abbrev pub turned_in : Calls → Unix → ℕ → Process → List ℕ → Phase → Turn
+turned_in calls unix slot process input Run = worked_turn (with_process unix slot (ran process)) input
+turned_in calls unix slot process input Asked = worked_turn (with_process unix slot (entered calls unix slot process)) input
+turned_in calls unix slot process input (Sent sent) = settled unix slot process input (call_line unix slot process input sent sent.call)
+turned_in calls unix slot process input (Done value address bytes) = worked_turn (with_process unix slot (returned process value address bytes)) input
+turned_in calls unix slot process input (Exiting word) = worked_turn (exit_step unix slot process word (lowest_open process)) input
+turned_in calls unix slot process input (Zombie word) = free_turn unix input
 
 -- by what the slot holds
-abbrev pub turned_at : Unix → ℕ → List ℕ → Option Process → Turn
-turned_at unix slot input None = idle unix input
-turned_at unix slot input (Some process) = turned_in unix slot process input process.phase
+abbrev pub turned_at : Calls → Unix → ℕ → List ℕ → Option Process → Turn
+turned_at calls unix slot input None = free_turn unix input
+turned_at calls unix slot input (Some process) = turned_in calls unix slot process input process.phase
 
 -- the position goes on with every turn
 abbrev pub ticked : Unix → Unix
 ticked unix = record unix { position = position_after unix }
 
 -- a turn of a slot
-unfoldable pub turned : Unix → ℕ → List ℕ → Turn
-turned unix slot input =
-    let turn = turned_at unix slot input (at unix.processes slot) in
+unfoldable pub turned : Calls → Unix → ℕ → List ℕ → Turn
+turned calls unix slot input =
+    let turn = turned_at calls unix slot input (at unix.processes slot) in
     record turn { state = ticked turn.state }
 
 -- What a call that makes a turn promises: with the source's bytes, where it tells them, the state, the answer, what is

@@ -1,7 +1,7 @@
 use Rattle.std.proofs.Common.{◌≡◌, ◌+◌, ◌^◌, ap, sym, ◌∙◌, arith}
 use Rattle.unix_model.specs.Loading.{page_mapped}
 use Rattle.unix_model.specs.Tables.{count_below}
-use Rattle.unix_model.proofs.BootLaws.{room-started}
+use Rattle.flat_unix.proofs.StoreSteps.{room-started}
 use Rattle.flat_unix.specs.FlatView.{unix_of}
 use Rattle.flat_unix.proofs.flat.Flat.has_room_to_start.Goals as goal
 

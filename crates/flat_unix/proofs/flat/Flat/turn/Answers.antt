@@ -1,7 +1,7 @@
 use Rattle.std.proofs.Common.{◌≡◌, ℕ, Option, ap, sym, ◌∙◌}
 use Rattle.unix_model.specs.Process as model
-use Rattle.unix_model.specs.State.{Unix, with_process}
-use Rattle.unix_model.proofs.TurnLaws.{put-back, without_process}
+use Rattle.unix_model.specs.State.{Unix, with_process, without_process}
+use Rattle.unix_model.proofs.TurnLaws.{put-back}
 use Rattle.flat_unix.specs.FlatView.{unix_of}
 use Rattle.flat_unix.specs.ProcessView.{process_of}
 use Rattle.flat_unix.specs.SlotsView.{slots_of}
