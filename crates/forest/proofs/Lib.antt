@@ -15,6 +15,7 @@ pub mod CopyHeld
 pub mod DescentLaws
 pub mod PruneLaws
 pub mod ShareLaws
+pub mod ThinLaws
 pub mod RootLaws
 pub mod CallLaws
 pub mod EmptyLaws

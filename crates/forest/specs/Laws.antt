@@ -8,7 +8,7 @@ use Rattle.forest.specs.Walks.{key_below, IsWay, page_way, Mapping, mapping_of, 
 use Rattle.forest.specs.Forest.{Forest, Exact, Sound, IsSpace, OwnWay, EndsAt, NobodyNames, in_hand, namings, node_way, FitsBelow, FitsUnder, key_height, IsRoot, masked, IsFilled, NoneEmpty, NoneEmptyBut, Held, NoPageOutside, top_digit}
 use Rattle.forest.specs.Changes.{raised, lowered, with_key, with_taken, with_given, and_outside, filled, with_fresh, with_copy, IsFree, MayStand, BelongsAt, WithRoot}
 use Rattle.forest.specs.Descent.{MadeOwn, IsMadeOwn, IsPageChanged}
-use Rattle.forest.specs.Release.{Release}
+use Rattle.forest.specs.Release.{Release, Thins}
 use Rattle.forest.specs.Labels.{IsIn, different, labels, TellsAlike, shared_page, IsProcessSpace, places_of, is_process}
 use Rattle.forest.specs.Mapped.{mapped, pages_below}
 use Rattle.forest.specs.Calls.{ChangesMap, AddsSpace, DropsSpace, IsOwn, IsWellFormed}
@@ -174,6 +174,16 @@ ReleaseGoesDown =
     → FitsBelow key (key_below keys key digit) → named (key_below keys key digit) ≡ Some object
     → key_height (key_below keys key digit) < key_height key
 
+-- Releasing takes keys away and lowers counts.
+abbrev pub ReleaseThins : Type 0
+ReleaseThins = (old new : Forest) (old_hand new_hand : List Key) → Release old old_hand new new_hand → Thins old new
+
+-- One release after another is a release.
+abbrev pub ReleaseTrans : Type 0
+ReleaseTrans =
+    (old next new : Forest) (old_hand next_hand new_hand : List Key)
+    → Release old old_hand next next_hand → Release next next_hand new new_hand → Release old old_hand new new_hand
+
 -- Each object that belongs to a tree is reached by some space.
 abbrev pub EverythingIsReached : Type 0
 EverythingIsReached =
@@ -261,6 +271,19 @@ CopyKeepsHeld =
     → ((object : Object) → named (at forest.keys place) ≡ Some object → 2 ≤ forest.count object)
     → Held (with_copy forest place fresh height owner) outside hand
     × ((space : ℕ) → IsSpace forest hand space ↔ IsSpace (with_copy forest place fresh height owner) hand space)
+
+-- What holds of a forest looks at the outside only where something belongs to a tree.
+abbrev pub HeldOutside : Type 0
+HeldOutside =
+    (forest : Forest) (outside other : Object → ℕ) (hand : List Key)
+    → ((object : Object) → IsSome (forest.owner object) → other object ≡ outside object)
+    → Held forest outside hand → Held forest other hand
+
+-- A key that names no part of a tree is in hand, or isn't.
+abbrev pub HeldNothing : Type 0
+HeldNothing =
+    (forest : Forest) (outside : Object → ℕ) (hand : List Key) (key : Key)
+    → named key ≡ None → Held forest outside hand → Held forest outside (key ∷ hand)
 
 -- At the end of an own way to a page, a page's key may stand, or none.
 abbrev pub PageMayStand : Type 0

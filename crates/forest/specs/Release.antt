@@ -1,5 +1,5 @@
 -- Releasing keys: each step looks at the first key in hand.
-use Rattle.std.specs.Prelude.{◌≡◌, ◌<◌, ◌≤◌, ◌-◌, ℕ, Some, None, List, ◌∷◌}
+use Rattle.std.specs.Prelude.{◌≡◌, ◌⊎◌, ◌<◌, ◌≤◌, ◌-◌, ℕ, Some, None, List, ◌∷◌}
 use Rattle.kn_base.specs.declared.key.Key.{Key}
 use Rattle.kn_base.specs.declared.key.Key.TheVariants.{Null}
 use Rattle.unix_model.specs.Tables.{at}
@@ -29,3 +29,8 @@ pub data Release : Forest → List Key → Forest → List Key → Type 0 where
   done : {forest : Forest} {hand : List Key} → Release forest hand forest hand
   more : {old next new : Forest} {old_hand next_hand new_hand : List Key}
       → ReleaseStep old old_hand next next_hand → Release next next_hand new new_hand → Release old old_hand new new_hand
+
+-- keys have been taken away, and none was written; counts have fallen, or are as they were
+pub record Thins (old new : Forest) : Type 0 where
+  pub keys : (place : ℕ) → (at new.keys place ≡ at old.keys place) ⊎ (at new.keys place ≡ Null)
+  pub counts : (object : Object) → new.count object ≤ old.count object

@@ -1,6 +1,6 @@
 //! All that holds of a forest goes on to hold while it changes.
 
-ghost use Rattle.forest.specs.Laws.{TakeKeepsHeld, RaiseKeepsHeld, WriteKeepsHeld, HandOutKeepsHeld, HandInKeepsHeld, ShareKeepsHeld, CopyKeepsHeld};
+ghost use Rattle.forest.specs.Laws.{TakeKeepsHeld, RaiseKeepsHeld, WriteKeepsHeld, HandOutKeepsHeld, HandInKeepsHeld, ShareKeepsHeld, CopyKeepsHeld, HeldOutside, HeldNothing};
 
 /// An object that nothing names is taken.
 pub fn take_keeps_held()
@@ -35,4 +35,14 @@ pub fn share_keeps_held()
 /// A node is copied, or put where none stood.
 pub fn copy_keeps_held()
     ensures { CopyKeepsHeld }
+{}
+
+/// What something outside names beside the parts of trees makes no difference.
+pub fn held_outside()
+    ensures { HeldOutside }
+{}
+
+/// A key that names no part of a tree is in hand, or isn't.
+pub fn held_nothing()
+    ensures { HeldNothing }
 {}

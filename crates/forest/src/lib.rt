@@ -28,8 +28,8 @@ pub use exact::{
 };
 pub use example::{example_holds, example_shows};
 pub use held::{
-    copy_keeps_held, hand_in_keeps_held, hand_out_keeps_held, raise_keeps_held, share_keeps_held,
-    take_keeps_held, write_keeps_held,
+    copy_keeps_held, hand_in_keeps_held, hand_out_keeps_held, held_nothing, held_outside,
+    raise_keeps_held, share_keeps_held, take_keeps_held, write_keeps_held,
 };
 pub use maps::{
     detach_keeps_maps, fresh_keeps_maps, masked_owners, masked_writes, prune_keeps_maps,
@@ -43,4 +43,6 @@ pub use reach::{
     alike_is_equally_many, every_page_is_mapped, everything_is_reached, mapped_is_sum,
     taken_is_different,
 };
-pub use release::{release_gives_unnamed, release_goes_down, release_keeps_spaces};
+pub use release::{
+    release_gives_unnamed, release_goes_down, release_keeps_spaces, release_thins, release_trans,
+};

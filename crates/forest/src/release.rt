@@ -1,6 +1,6 @@
 //! Releasing keys: counts are lowered, and what nothing names any more is given back.
 
-ghost use Rattle.forest.specs.Laws.{ReleaseKeepsSpaces, ReleaseGivesUnnamed, ReleaseGoesDown};
+ghost use Rattle.forest.specs.Laws.{ReleaseKeepsSpaces, ReleaseGivesUnnamed, ReleaseGoesDown, ReleaseThins, ReleaseTrans};
 
 /// Releasing keeps counts exact, and every other space stays one and keeps its map.
 pub fn release_keeps_spaces()
@@ -15,4 +15,14 @@ pub fn release_gives_unnamed()
 /// A key that releasing takes out of a node stands lower than the node, so its height is a measure of the recursion.
 pub fn release_goes_down()
     ensures { ReleaseGoesDown }
+{}
+
+/// Releasing takes keys away and lowers counts: no place has another key than before, and no count rises.
+pub fn release_thins()
+    ensures { ReleaseThins }
+{}
+
+/// One release after another is a release.
+pub fn release_trans()
+    ensures { ReleaseTrans }
 {}

@@ -2,3 +2,5 @@
 pub mod Entries
 pub mod Files
 pub mod Kernel
+pub mod Rows
+pub mod Blocks

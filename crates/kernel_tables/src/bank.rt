@@ -2,9 +2,10 @@
 
 ghost use Rattle.std.specs.Prelude.{◌≡◌, ◌≢◌, ◌⊎◌, ℕ, ◌<◌, ◌≤◌, ◌+◌, ◌-◌, ◌*◌, Some, length, slice_index_or, slice_set};
 ghost use Rattle.kn_base.specs.Rows.{part_at, overwritten};
-ghost use Rattle.kn_base.specs.Memory.{Memory, zero_page};
+ghost use Rattle.kn_base.specs.Memory.{Memory, zero_page, ChangesBlock};
 ghost use Rattle.kernel_tables.specs.declared.entry.Entry.TheVariants.{Fixed, Unspelled};
 ghost use Rattle.kernel_tables.specs.Kernel.{Kernel, kernel_of, Sized, IsSized, first_page, node_entry_page, IsBankPage, bank_page, with_bank_page, memory_page};
+ghost use Rattle.kernel_tables.specs.Blocks.{page_entry_block, node_entry_block, key_block};
 
 use super::entry::{
     Entry, NodeOwner, PageOwner, node_entry_bytes, node_entry_in, page_entry_bytes, page_entry_in,
@@ -48,6 +49,7 @@ pub fn set_page_entry<T: Store>(store: &mut T, n: u32, entry: Entry<PageOwner>)
     requires page { n < (kernel_of (T.memory store.old)).size }
     requires no_fixed_page { entry ≢ Fixed }
     ensures written { kernel_of (T.memory store.new) ≡ record (kernel_of (T.memory store.old)) { page_entries = slice_set (kernel_of (T.memory store.old)).page_entries n entry } }
+    ensures one_block { ChangesBlock (T.blocks store.old) (T.blocks store.new) (page_entry_block n) }
     ensures keeps { T.keeps store.old store.new }
 {
     store.write_page(
@@ -85,6 +87,7 @@ pub fn set_node_entry<T: Store>(store: &mut T, node: NodeId, entry: Entry<NodeOw
     requires sized { Sized (kernel_of (T.memory store.old)) }
     requires node { node.0 < (kernel_of (T.memory store.old)).nodes }
     ensures written { kernel_of (T.memory store.new) ≡ record (kernel_of (T.memory store.old)) { node_entries = slice_set (kernel_of (T.memory store.old)).node_entries node.0 entry } }
+    ensures one_block { ChangesBlock (T.blocks store.old) (T.blocks store.new) (node_entry_block (kernel_of (T.memory store.old)).size node.0) }
     ensures keeps { T.keeps store.old store.new }
 {
     let page = PageId(node_entries(store) + node.0 / 512);
@@ -97,6 +100,7 @@ pub fn clear_bank_page<T: Store>(store: &mut T, n: u32)
     requires sized { Sized (kernel_of (T.memory store.old)) }
     requires page { n < (kernel_of (T.memory store.old)).size }
     ensures written { kernel_of (T.memory store.new) ≡ record (kernel_of (T.memory store.old)) { bank = slice_set (kernel_of (T.memory store.old)).bank n zero_page } }
+    ensures one_block { ChangesBlock (T.blocks store.old) (T.blocks store.new) (first_page (kernel_of (T.memory store.old)).size + n) }
     ensures keeps { T.keeps store.old store.new }
 {
     let first = first_bank_page(bank_size(store));
@@ -134,6 +138,7 @@ pub fn write_bank_page<T: Store>(store: &mut T, page: PageId, at: u16, from: &[u
     requires page { IsBankPage (kernel_of (T.memory store.old)).size page.0 }
     requires within { at + length from.now ≤ 4096 }
     ensures written { let old = kernel_of (T.memory store.old) in kernel_of (T.memory store.new) ≡ record old { bank = with_bank_page old page.0 (overwritten (bank_page old page.0) at from.now) } }
+    ensures one_block { ChangesBlock (T.blocks store.old) (T.blocks store.new) page.0 }
     ensures keeps { T.keeps store.old store.new }
 {
     store.write_page(page, at, from);
@@ -147,6 +152,7 @@ pub fn copy_bank_page<T: Store>(store: &mut T, from: PageId, to: PageId)
     requires to { IsBankPage (kernel_of (T.memory store.old)).size to.0 }
     requires two_pages { from.0 ≢ to.0 }
     ensures written { let old = kernel_of (T.memory store.old) in kernel_of (T.memory store.new) ≡ record old { bank = with_bank_page old to.0 (bank_page old from.0) } }
+    ensures one_block { ChangesBlock (T.blocks store.old) (T.blocks store.new) to.0 }
     ensures keeps { T.keeps store.old store.new }
 {
     store.copy_page(from, to);
@@ -172,6 +178,7 @@ pub fn set_key_at<T: Store>(store: &mut T, node: NodeId, place: u8, key: Key)
     requires node { node.0 < (kernel_of (T.memory store.old)).nodes }
     requires place { place < 16 }
     ensures written { kernel_of (T.memory store.new) ≡ record (kernel_of (T.memory store.old)) { keys = slice_set (kernel_of (T.memory store.old)).keys (16 * node.0 + place) (Some key) } }
+    ensures one_block { ChangesBlock (T.blocks store.old) (T.blocks store.new) (key_block (kernel_of (T.memory store.old)).pages node.0) }
     ensures keeps { T.keeps store.old store.new }
 {
     store.set_key(node, place, key);

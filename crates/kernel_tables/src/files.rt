@@ -1,8 +1,9 @@
 //! The tables of inodes and of open descriptions.
 
 ghost use Rattle.std.specs.Prelude.{◌≡◌, ℕ, ◌<◌, length, slice_set};
-ghost use Rattle.kn_base.specs.Memory.{Memory};
+ghost use Rattle.kn_base.specs.Memory.{Memory, ChangesBlock};
 ghost use Rattle.kernel_tables.specs.Kernel.{Kernel, kernel_of, Sized, IsSized, inode_count, inode_at, description_count, description_at};
+ghost use Rattle.kernel_tables.specs.Blocks.{inode_block, description_block};
 
 use super::description::{Description, description_bytes, description_entry_in};
 use super::inode::{Inode, inode_bytes, inode_entry_in};
@@ -29,6 +30,7 @@ pub fn set_inode_entry<T: Store>(store: &mut T, number: u32, entry: Row<Inode>)
     requires sized { Sized (kernel_of (T.memory store.old)) }
     requires number { number < inode_count }
     ensures written { kernel_of (T.memory store.new) ≡ record (kernel_of (T.memory store.old)) { inodes = slice_set (kernel_of (T.memory store.old)).inodes number entry } }
+    ensures one_block { ChangesBlock (T.blocks store.old) (T.blocks store.new) (inode_block number) }
     ensures keeps { T.keeps store.old store.new }
 {
     let bytes = inode_bytes(entry);
@@ -56,6 +58,7 @@ pub fn set_description_entry<T: Store>(store: &mut T, number: u16, entry: Row<De
     requires sized { Sized (kernel_of (T.memory store.old)) }
     requires number { number < description_count }
     ensures written { kernel_of (T.memory store.new) ≡ record (kernel_of (T.memory store.old)) { descriptions = slice_set (kernel_of (T.memory store.old)).descriptions number entry } }
+    ensures one_block { ChangesBlock (T.blocks store.old) (T.blocks store.new) (description_block number) }
     ensures keeps { T.keeps store.old store.new }
 {
     let bytes = description_bytes(entry);

@@ -9,8 +9,6 @@ mod files;
 mod inode;
 mod machine;
 mod row;
-#[cfg(test)]
-mod tests;
 
 pub use bank::{
     bank_size, clear_bank_page, copy_bank_page, first_bank_page, key_at, node_entry, page_entry,

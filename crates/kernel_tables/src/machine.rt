@@ -1,8 +1,9 @@
 //! The words of the machine page.
 
 ghost use Rattle.std.specs.Prelude.{◌≡◌, ℕ, ◌<◌, ◌≤◌, length, slice_index};
-ghost use Rattle.kn_base.specs.Memory.{Memory};
+ghost use Rattle.kn_base.specs.Memory.{Memory, ChangesBlock};
 ghost use Rattle.kernel_tables.specs.Kernel.{Kernel, kernel_of, Sized, IsSized, page_words, with_word};
+ghost use Rattle.kernel_tables.specs.Blocks.{machine_block};
 
 use kn_base::{PageId, Store};
 
@@ -50,6 +51,7 @@ fn set_word<T: Store>(store: &mut T, n: u16, value: u32)
     requires sized { Sized (kernel_of (T.memory store.old)) }
     requires row { n < 10 }
     ensures written { kernel_of (T.memory store.new) ≡ record (kernel_of (T.memory store.old)) { machine = with_word (kernel_of (T.memory store.old)).machine n value } }
+    ensures one_block { ChangesBlock (T.blocks store.old) (T.blocks store.new) machine_block }
     ensures keeps { T.keeps store.old store.new }
 {
     store.write_page(PageId(1), 4 * n, &value.to_le_bytes());
@@ -68,6 +70,7 @@ pub fn size<T: Store>(store: &T) -> u32
 pub fn set_size<T: Store>(store: &mut T, value: u32)
     requires { Sized (kernel_of (T.memory store.old)) }
     ensures written { kernel_of (T.memory store.new) ≡ record (kernel_of (T.memory store.old)) { machine = record (kernel_of (T.memory store.old)).machine { size = value } } }
+    ensures one_block { ChangesBlock (T.blocks store.old) (T.blocks store.new) machine_block }
     ensures keeps { T.keeps store.old store.new }
 {
     set_word(store, 0, value);
@@ -86,6 +89,7 @@ pub fn quantum<T: Store>(store: &T) -> u32
 pub fn set_quantum<T: Store>(store: &mut T, value: u32)
     requires { Sized (kernel_of (T.memory store.old)) }
     ensures written { kernel_of (T.memory store.new) ≡ record (kernel_of (T.memory store.old)) { machine = record (kernel_of (T.memory store.old)).machine { quantum = value } } }
+    ensures one_block { ChangesBlock (T.blocks store.old) (T.blocks store.new) machine_block }
     ensures keeps { T.keeps store.old store.new }
 {
     set_word(store, 1, value);
@@ -104,6 +108,7 @@ pub fn position<T: Store>(store: &T) -> u32
 pub fn set_position<T: Store>(store: &mut T, value: u32)
     requires { Sized (kernel_of (T.memory store.old)) }
     ensures written { kernel_of (T.memory store.new) ≡ record (kernel_of (T.memory store.old)) { machine = record (kernel_of (T.memory store.old)).machine { position = value } } }
+    ensures one_block { ChangesBlock (T.blocks store.old) (T.blocks store.new) machine_block }
     ensures keeps { T.keeps store.old store.new }
 {
     set_word(store, 2, value);
@@ -122,6 +127,7 @@ pub fn next_pid<T: Store>(store: &T) -> u32
 pub fn set_next_pid<T: Store>(store: &mut T, value: u32)
     requires { Sized (kernel_of (T.memory store.old)) }
     ensures written { kernel_of (T.memory store.new) ≡ record (kernel_of (T.memory store.old)) { machine = record (kernel_of (T.memory store.old)).machine { next_pid = value } } }
+    ensures one_block { ChangesBlock (T.blocks store.old) (T.blocks store.new) machine_block }
     ensures keeps { T.keeps store.old store.new }
 {
     set_word(store, 3, value);
@@ -140,6 +146,7 @@ pub fn promised<T: Store>(store: &T) -> u32
 pub fn set_promised<T: Store>(store: &mut T, value: u32)
     requires { Sized (kernel_of (T.memory store.old)) }
     ensures written { kernel_of (T.memory store.new) ≡ record (kernel_of (T.memory store.old)) { machine = record (kernel_of (T.memory store.old)).machine { promised = value } } }
+    ensures one_block { ChangesBlock (T.blocks store.old) (T.blocks store.new) machine_block }
     ensures keeps { T.keeps store.old store.new }
 {
     set_word(store, 4, value);
@@ -158,6 +165,7 @@ pub fn free_page<T: Store>(store: &T) -> u32
 pub fn set_free_page<T: Store>(store: &mut T, value: u32)
     requires { Sized (kernel_of (T.memory store.old)) }
     ensures written { kernel_of (T.memory store.new) ≡ record (kernel_of (T.memory store.old)) { machine = record (kernel_of (T.memory store.old)).machine { free_page = value } } }
+    ensures one_block { ChangesBlock (T.blocks store.old) (T.blocks store.new) machine_block }
     ensures keeps { T.keeps store.old store.new }
 {
     set_word(store, 5, value);
@@ -176,6 +184,7 @@ pub fn free_node<T: Store>(store: &T) -> u32
 pub fn set_free_node<T: Store>(store: &mut T, value: u32)
     requires { Sized (kernel_of (T.memory store.old)) }
     ensures written { kernel_of (T.memory store.new) ≡ record (kernel_of (T.memory store.old)) { machine = record (kernel_of (T.memory store.old)).machine { free_node = value } } }
+    ensures one_block { ChangesBlock (T.blocks store.old) (T.blocks store.new) machine_block }
     ensures keeps { T.keeps store.old store.new }
 {
     set_word(store, 6, value);
@@ -194,6 +203,7 @@ pub fn memory_taken<T: Store>(store: &T) -> u32
 pub fn set_memory_taken<T: Store>(store: &mut T, value: u32)
     requires { Sized (kernel_of (T.memory store.old)) }
     ensures written { kernel_of (T.memory store.new) ≡ record (kernel_of (T.memory store.old)) { machine = record (kernel_of (T.memory store.old)).machine { memory_taken = value } } }
+    ensures one_block { ChangesBlock (T.blocks store.old) (T.blocks store.new) machine_block }
     ensures keeps { T.keeps store.old store.new }
 {
     set_word(store, 7, value);
@@ -212,6 +222,7 @@ pub fn pages_taken<T: Store>(store: &T) -> u32
 pub fn set_pages_taken<T: Store>(store: &mut T, value: u32)
     requires { Sized (kernel_of (T.memory store.old)) }
     ensures written { kernel_of (T.memory store.new) ≡ record (kernel_of (T.memory store.old)) { machine = record (kernel_of (T.memory store.old)).machine { pages_taken = value } } }
+    ensures one_block { ChangesBlock (T.blocks store.old) (T.blocks store.new) machine_block }
     ensures keeps { T.keeps store.old store.new }
 {
     set_word(store, 8, value);
@@ -230,6 +241,7 @@ pub fn nodes_taken<T: Store>(store: &T) -> u32
 pub fn set_nodes_taken<T: Store>(store: &mut T, value: u32)
     requires { Sized (kernel_of (T.memory store.old)) }
     ensures written { kernel_of (T.memory store.new) ≡ record (kernel_of (T.memory store.old)) { machine = record (kernel_of (T.memory store.old)).machine { nodes_taken = value } } }
+    ensures one_block { ChangesBlock (T.blocks store.old) (T.blocks store.new) machine_block }
     ensures keeps { T.keeps store.old store.new }
 {
     set_word(store, 9, value);

@@ -3,8 +3,6 @@
 
 mod key;
 mod store;
-#[cfg(test)]
-mod tests;
 
 pub use key::{Key, NodeId, PageId, bytes_of, key_of};
 pub use store::{Counts, Store};

@@ -2,8 +2,6 @@
 #![tactic(auto)]
 
 mod ram;
-#[cfg(test)]
-mod tests;
 
 pub use kn_io::NoMemory;
 pub use ram::RamStore;

@@ -6,7 +6,8 @@ use Rattle.kernel_tables.specs.declared.entry.Entry.TheVariants.{Free, Taken, Fi
 use Rattle.kernel_tables.specs.declared.entry.Entry.{Entry}
 use Rattle.kernel_tables.specs.declared.entry.NodeOwner.{NodeOwner}
 use Rattle.kernel_tables.specs.Kernel.{Kernel, first_page}
-use Rattle.space_bank.specs.FreeList.{entry_at, is_free, taken_one, is_free_at}
+use Rattle.kernel_tables.specs.Rows.{entry_at}
+use Rattle.space_bank.specs.FreeList.{is_free, taken_one, is_free_at}
 use Rattle.space_bank.specs.Bank.{BankGood, IsFirstFree, TakesNode, IsTakenOnce, memory_taken_one, page_taken, page_given, node_taken, node_given}
 use Rattle.space_bank.proofs.EntryLaws.{pages_good-taken, pages_good-given, nodes_good-taken, nodes_good-given, taken-some, memory-some, free_node-high}
 

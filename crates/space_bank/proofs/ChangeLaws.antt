@@ -13,7 +13,8 @@ use Rattle.kernel_tables.specs.declared.entry.NodeOwner.{NodeOwner}
 use Rattle.kernel_tables.specs.declared.entry.Entry.{Entry}
 use Rattle.kernel_tables.specs.declared.entry.Entry.TheVariants.{Free, Taken, Fixed, Unspelled}
 use Rattle.kernel_tables.specs.Kernel.{Kernel, first_page}
-use Rattle.space_bank.specs.FreeList.{entry_at, is_free, shares, taken_one, elem, IsFreeList}
+use Rattle.kernel_tables.specs.Rows.{entry_at, spelled_or_null, key_table}
+use Rattle.space_bank.specs.FreeList.{is_free, shares, taken_one, elem, IsFreeList}
 use Rattle.space_bank.specs.Bank.{BankGood, EntriesGood, memory_taken_one}
 use Rattle.space_bank.specs.Shares.{SharesAgree, Shares, spelled_and, key_names_page, key_names_node, page_places, node_places, page_in_hand, node_in_hand, page_names, node_names}
 use Rattle.space_bank.specs.Changes.{IsTaken, with_count, page_counted, node_counted, key_written, PutsPageKeyInHand, PutsNodeKeyInHand, TakesPageKeyOutOfHand, TakesNodeKeyOutOfHand, ExchangesKeys}
@@ -141,6 +142,10 @@ bank_good-page_counted kernel n count below was some good =
         entries_good =
             entries_good-counted kernel.page_entries (first_page kernel.size) kernel.size kernel.machine.free_page
             kernel.machine.pages_taken n count below was some good.pages.entries_good;
+        none_fixed =
+            λ m under.
+            set_cases (λ e. e ≢ Fixed) kernel.page_entries n m entry inside (λ same. taken_unfixed entry now)
+            (λ other. good.pages.none_fixed m under);
         memory_number = let e = good.pages.memory_number in omega arith;
         pages = good.pages.pages;
         zeros =
@@ -292,34 +297,37 @@ node-lowered kernel new n low below was e outside hand key named counted =
           counted.of_nodes;
     })
 
--- a key in hand and the key at a place change places
-exchanged : (test : Key → Bool) (keys : List (Option Key)) (place : ℕ) (key was : Key) (hand : List Key) → place < length keys → get_or keys place None ≡ Some was → count_by (spelled_and test) (set keys place (Some key)) + count_by test (was ∷ hand) ≡ count_by (spelled_and test) keys + count_by test (key ∷ hand)
-exchanged test keys place key was hand inside there =
+-- a key in hand and the key at a place change places, where an unspelled one counts as Null
+spelled_alike : (test : Key → Bool) (there : Option Key) → test Null ≡ false → cond {A = ℕ} (spelled_and test there) 1 0 ≡ cond {A = ℕ} (test (spelled_or_null there)) 1 0
+spelled_alike test None null = ap (λ b. cond {A = ℕ} b 1 0) (sym null)
+spelled_alike test (Some key) null = refl
+
+exchanged : (test : Key → Bool) (keys : List (Option Key)) (place : ℕ) (key : Key) (hand : List Key) → test Null ≡ false → place < length keys → count_by (spelled_and test) (set keys place (Some key)) + count_by test (key_table keys place ∷ hand) ≡ count_by (spelled_and test) keys + count_by test (key ∷ hand)
+unfolding key_table
+exchanged test keys place key hand null inside =
     let written = sum_by-set (λ k. cond {A = ℕ} (spelled_and test k) 1 0) keys place (Some key) None inside in
-    let own : cond {A = ℕ} (spelled_and test (get_or keys place None)) 1 0 ≡ cond {A = ℕ} (test was) 1 0 =
-    ap (λ k. cond {A = ℕ} (spelled_and test k) 1 0) there
-    in
-    let first = in_hand-cons test was hand (test was) refl in
+    let own = spelled_alike test (get_or keys place None) null in
+    let first = in_hand-cons test (spelled_or_null (get_or keys place None)) hand (test (spelled_or_null (get_or keys place None))) refl in
     let second = in_hand-cons test key hand (test key) refl in
     omega arith
 
 pub keys-exchanged : (kernel new : Kernel) (node place : ℕ) (key : Key) → 16 * node + place < length kernel.keys → new ≡ key_written kernel node place key → ExchangesKeys kernel new node place key
 unfolding page_places node_places page_in_hand node_in_hand
-keys-exchanged kernel new node place key inside e outside hand was there counted =
-    subst (λ (k : Kernel). Shares k outside (was ∷ hand)) (sym e)
+keys-exchanged kernel new node place key inside e outside hand counted =
+    subst (λ (k : Kernel). Shares k outside (key_table kernel.keys (16 * node + place) ∷ hand)) (sym e)
     (record {
       of_pages =
           agree-same kernel.page_entries (first_page kernel.size) 0 kernel.size (page_names kernel.keys outside (key ∷ hand))
-          (page_names (key_written kernel node place key).keys outside (was ∷ hand))
+          (page_names (key_written kernel node place key).keys outside (key_table kernel.keys (16 * node + place) ∷ hand))
           (λ m.
-          let both = exchanged (key_names_page m) kernel.keys (16 * node + place) key was hand inside there in
+          let both = exchanged (key_names_page m) kernel.keys (16 * node + place) key hand refl inside in
           omega arith)
           counted.of_pages;
       of_nodes =
           agree-same kernel.node_entries 0 15 kernel.nodes (node_names kernel.keys outside (key ∷ hand))
-          (node_names (key_written kernel node place key).keys outside (was ∷ hand))
+          (node_names (key_written kernel node place key).keys outside (key_table kernel.keys (16 * node + place) ∷ hand))
           (λ m.
-          let both = exchanged (key_names_node m) kernel.keys (16 * node + place) key was hand inside there in
+          let both = exchanged (key_names_node m) kernel.keys (16 * node + place) key hand refl inside in
           omega arith)
           counted.of_nodes;
     })

@@ -19,7 +19,8 @@ use Rattle.kernel_tables.specs.declared.entry.Entry.TheVariants.{Free, Fixed, Un
 use Rattle.kernel_tables.specs.Kernel.{Kernel, zero_kernel, first_page, entry_pages, node_count}
 use Rattle.kernel_tables.specs.declared.row.Row.TheVariants.{Used}
 use Rattle.space_bank.specs.Fixed.{console_inode, empty_root}
-use Rattle.space_bank.specs.FreeList.{entry_at, is_free, is_free_at, taken_one, shares, following, Linked, taken_count}
+use Rattle.kernel_tables.specs.Rows.{entry_at}
+use Rattle.space_bank.specs.FreeList.{is_free, is_free_at, taken_one, shares, following, Linked, taken_count}
 use Rattle.space_bank.specs.Bank.{BankGood, EntriesGood, PagesGood, NodesGood, memory_count, memory_taken_one}
 use Rattle.space_bank.specs.Shares.{Shares, NoneNamed, nothing_outside, key_names_page, key_names_node, page_places, node_places, page_in_hand, node_in_hand}
 use Rattle.space_bank.specs.Setup.{free_entries, empty_entries, with_service_roots, empty_bank}
@@ -168,6 +169,9 @@ pages_good-empty size some =
       entries_good =
           subst (λ (k : ℕ). EntriesGood entries (first_page size) size k 0) first
           (entries_good-empty PageOwner (first_page size) size 0 (omega arith) (omega arith));
+      none_fixed =
+          λ n inside e.
+          let no : Free (following (first_page size) size n) ≡ Fixed = sym (empty-linked PageOwner (first_page size) size 0 n (omega arith) inside) ∙ e in cc;
       memory_number = sym (memory_count-empty (first_page size) size 0);
       pages = length-replicate size zero_page;
       zeros = λ n free. get_or-replicate size n zero_page [] (free_inside size entries n free);

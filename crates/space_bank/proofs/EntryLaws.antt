@@ -15,7 +15,8 @@ use Rattle.kernel_tables.specs.declared.entry.NodeOwner.{NodeOwner}
 use Rattle.kernel_tables.specs.declared.entry.Entry.{Entry}
 use Rattle.kernel_tables.specs.declared.entry.Entry.TheVariants.{Free, Taken, Fixed, Unspelled}
 use Rattle.kernel_tables.specs.Kernel.{first_page}
-use Rattle.space_bank.specs.FreeList.{entry_at, is_free, next_of, shares, taken_one, IsFreeList, taken_count}
+use Rattle.kernel_tables.specs.Rows.{entry_at}
+use Rattle.space_bank.specs.FreeList.{is_free, next_of, shares, taken_one, IsFreeList, taken_count}
 use Rattle.space_bank.specs.Bank.{EntriesGood, PagesGood, NodesGood, IsFirstFree, memory_one, memory_taken_one, memory_count}
 use Rattle.space_bank.proofs.FreeListLaws.{entry_inside, free_list-taken, free_list-given, taken_count-set, taken_count-few, sum_by-few}
 
@@ -147,6 +148,10 @@ pages_good-taken size entries first taken memory bank n owner head good =
     in
     record {
       entries_good = entries_good-taken entries (first_page size) size first taken n owner head good.entries_good;
+      none_fixed =
+          λ m below.
+          set_cases (λ e. e ≢ Fixed) entries n m (Taken owner 1) inside
+          (λ same e. let no : Taken owner 1 ≡ Fixed = e in cc) (λ other. good.none_fixed m below);
       memory_number = let e = good.memory_number in omega arith;
       pages = good.pages;
       zeros =
@@ -165,6 +170,10 @@ pages_good-given size entries first taken memory bank n below some was_taken goo
     let all : length bank ≡ size = good.pages in
     record {
       entries_good = entries_good-given entries (first_page size) size first taken n below some was_taken good.entries_good;
+      none_fixed =
+          λ m under.
+          set_cases (λ e. e ≢ Fixed) entries n m (Free first) inside
+          (λ same e. let no : Free first ≡ Fixed = e in cc) (λ other. good.none_fixed m under);
       memory_number = let e = good.memory_number in omega arith;
       pages = length-set bank n zero_page ∙ good.pages;
       zeros =

@@ -7,7 +7,8 @@ use Rattle.std.proofs.lemmas.Bool.{and_parts, cases_eq, cases_lt, eq-eqb, ne_eqb
 use Rattle.std.specs.List.{sum_by}
 use Rattle.kernel_tables.specs.declared.entry.Entry.{Entry}
 use Rattle.kernel_tables.specs.declared.entry.Entry.TheVariants.{Free, Taken, Fixed, Unspelled}
-use Rattle.space_bank.specs.FreeList.{entry_at, is_free, next_of, is_free_at, taken_one, elem, first_of, Threads, IsFreeList, taken_count}
+use Rattle.kernel_tables.specs.Rows.{entry_at}
+use Rattle.space_bank.specs.FreeList.{is_free, next_of, is_free_at, taken_one, elem, first_of, Threads, IsFreeList, taken_count}
 use Rattle.space_bank.specs.Bank.{NoneFree, IsFirstFree}
 
 -- an entry that is spelled is there

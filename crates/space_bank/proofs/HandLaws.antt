@@ -1,11 +1,11 @@
 -- What is in hand, in which order, and what is handed out.
-use Rattle.std.proofs.Common.{◌≡◌, ℕ, ◌+◌, ◌-◌, Some, List, ◌∷◌, refl, ap, sym, ◌∙◌, arith}
+use Rattle.std.proofs.Common.{◌≡◌, ℕ, ◌+◌, ◌-◌, ◌<◌, ◌≤◌, Some, List, ◌∷◌, refl, ap, sym, ◌∙◌, arith}
 use Rattle.kn_base.specs.declared.key.Key.{Key}
 use Rattle.kernel_tables.specs.Kernel.{Kernel, first_page}
-use Rattle.space_bank.specs.FreeList.{entry_at}
+use Rattle.kernel_tables.specs.Rows.{entry_at}
 use Rattle.space_bank.specs.Shares.{Shares, Outside, key_names_page, key_names_node, page_places, node_places, page_in_hand, node_in_hand, page_names, node_names}
 use Rattle.space_bank.specs.Laws.{PageInHandIsUnnamed, NodeInHandIsUnnamed, NothingInHand, HandSwapped, HandedOut, and_outside}
-use Rattle.space_bank.proofs.ShareLaws.{agree-same, shared_once, in_hand-cons, nothing-page, nothing-node, page-named_in_hand, page-other_in_hand, node-named_in_hand, node-other_in_hand}
+use Rattle.space_bank.proofs.ShareLaws.{agree-same, agree-among, shared_once, in_hand-cons, nothing-page, nothing-node, page-named_in_hand, page-other_in_hand, node-named_in_hand, node-other_in_hand}
 
 pub page-in_hand_unnamed : PageInHandIsUnnamed
 page-in_hand_unnamed kernel outside hand key page inside once named counted =
@@ -43,12 +43,24 @@ shares-same kernel outside other hand held pages nodes counted = record {
       (node_names kernel.keys other held) nodes counted.of_nodes;
 }
 
+-- all that is counted is named as often with another hand
+shares-among : (kernel : Kernel) (outside : Outside) (hand held : List Key) → ((id : ℕ) → 0 < id → page_names kernel.keys outside held id ≡ page_names kernel.keys outside hand id) → ((id : ℕ) → 15 ≤ id → node_names kernel.keys outside held id ≡ node_names kernel.keys outside hand id) → Shares kernel outside hand → Shares kernel outside held
+unfolding first_page
+shares-among kernel outside hand held pages nodes counted = record {
+  of_pages =
+      agree-among kernel.page_entries (first_page kernel.size) 0 kernel.size (page_names kernel.keys outside hand)
+      (page_names kernel.keys outside held) (λ id some. pages id (omega arith)) counted.of_pages;
+  of_nodes =
+      agree-among kernel.node_entries 0 15 kernel.nodes (node_names kernel.keys outside hand)
+      (node_names kernel.keys outside held) (λ id past. nodes id (omega arith)) counted.of_nodes;
+}
+
 pub nothing-in_hand : NothingInHand
 nothing-in_hand kernel outside hand key nothing =
-    let pages = λ (id : ℕ). page-other_in_hand kernel.keys outside hand id key (nothing-page id (Some key) nothing) in
-    let nodes = λ (id : ℕ). node-other_in_hand kernel.keys outside hand id key (nothing-node id (Some key) nothing) in (
-      shares-same kernel outside outside (key ∷ hand) hand (λ id. sym (pages id)) (λ id. sym (nodes id)),
-      shares-same kernel outside outside hand (key ∷ hand) pages nodes,
+    let pages = λ (id : ℕ) (real : 0 < id). page-other_in_hand kernel.keys outside hand id key (nothing-page id real (Some key) nothing) in
+    let nodes = λ (id : ℕ) (real : 15 ≤ id). node-other_in_hand kernel.keys outside hand id key (nothing-node id real (Some key) nothing) in (
+      shares-among kernel outside (key ∷ hand) hand (λ id real. sym (pages id real)) (λ id real. sym (nodes id real)),
+      shares-among kernel outside hand (key ∷ hand) pages nodes,
     )
 
 -- what a key counts for before another one

@@ -8,3 +8,4 @@ pub mod FreshLaws
 pub mod EmptyBank
 pub mod ChangeLaws
 pub mod HandLaws
+pub mod FullLaws

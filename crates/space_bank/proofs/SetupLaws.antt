@@ -8,7 +8,8 @@ use Rattle.kn_base.specs.Rows.{overwritten}
 use Rattle.kn_base.proofs.RowLaws.{overwritten-none, overwritten-more}
 use Rattle.kernel_tables.specs.declared.entry.Entry.{Entry}
 use Rattle.kernel_tables.specs.declared.entry.Entry.TheVariants.{Free}
-use Rattle.space_bank.specs.FreeList.{entry_at, is_free, elem, first_of, Threads, IsFreeList, following, Linked}
+use Rattle.kernel_tables.specs.Rows.{entry_at}
+use Rattle.space_bank.specs.FreeList.{is_free, elem, first_of, Threads, IsFreeList, following, Linked}
 use Rattle.space_bank.specs.Setup.{free_entries}
 
 elem-range_in : (a n m : ℕ) → a ≤ m → m < a + n → elem m (range_with_len a n) ≡ true

@@ -12,7 +12,8 @@ use Rattle.kernel_tables.specs.declared.entry.Entry.TheVariants.{Free, Taken, Fi
 use Rattle.kernel_tables.specs.declared.entry.PageOwner.{PageOwner}
 use Rattle.kernel_tables.specs.declared.entry.NodeOwner.{NodeOwner}
 use Rattle.kernel_tables.specs.Kernel.{Kernel, first_page}
-use Rattle.space_bank.specs.FreeList.{entry_at, is_free, shares}
+use Rattle.kernel_tables.specs.Rows.{entry_at}
+use Rattle.space_bank.specs.FreeList.{is_free, shares}
 use Rattle.space_bank.specs.Bank.{IsFirstFree, IsTakenOnce, page_taken, page_given, node_taken, node_given}
 use Rattle.space_bank.specs.Fixed.{key_in}
 use Rattle.space_bank.specs.Shares.{SharesAgree, Shares, Outside, Unnamed, NoneNamed, PutsPageInHand, PutsNodeInHand, TakesPageOutOfHand, TakesNodeOutOfHand, NamesNothing, key_names_page, key_names_node, spelled_and, spelled_keys, node_keys, page_places, node_places, page_in_hand, node_in_hand, page_names, node_names}
@@ -38,15 +39,23 @@ once_spelled entry h e = let one = shared_once entry h in let none = ap shares e
 pub fixed_untaken : {O : Type 0} (entry : Entry O) → entry ≡ Fixed → IsTakenOnce entry → ⊥
 fixed_untaken entry e once = let one = shared_once entry once in let none = ap shares e in absurd (omega arith)
 
--- one entry is written, and its object is named more often or less
-pub agree-set : {O : Type 0} (entries : List (Entry O)) (base start count n : ℕ) (entry : Entry O) (old new : ℕ → ℕ) → entry_at entries n ≢ Unspelled → shares entry ≡ new (base + n) → ((m : ℕ) → m ≢ base + n → new m ≡ old m) → SharesAgree entries base start count old → SharesAgree (set entries n entry) base start count new
-agree-set entries base start count n entry old new spelled here there agreed = record {
+-- one entry is written, and its object is named more often or less, where all others that are counted are named as often
+agree-set_among : {O : Type 0} (entries : List (Entry O)) (base start count n : ℕ) (entry : Entry O) (old new : ℕ → ℕ) → entry_at entries n ≢ Unspelled → shares entry ≡ new (base + n) → ((m : ℕ) → base + start ≤ m → m ≢ base + n → new m ≡ old m) → SharesAgree entries base start count old → SharesAgree (set entries n entry) base start count new
+agree-set_among entries base start count n entry old new spelled here there agreed = record {
   agree =
       λ m low high.
       set_cases (λ e. shares e ≡ new (base + m)) entries n m entry (entry_inside entries n spelled)
       (λ same. subst (λ (k : ℕ). shares entry ≡ new (base + k)) same here)
-      (λ other. agreed.agree m low high ∙ sym (there (base + m) (λ e. other (omega arith))));
+      (λ other. agreed.agree m low high ∙ sym (there (base + m) (omega arith) (λ e. other (omega arith))));
 }
+
+pub agree-set : {O : Type 0} (entries : List (Entry O)) (base start count n : ℕ) (entry : Entry O) (old new : ℕ → ℕ) → entry_at entries n ≢ Unspelled → shares entry ≡ new (base + n) → ((m : ℕ) → m ≢ base + n → new m ≡ old m) → SharesAgree entries base start count old → SharesAgree (set entries n entry) base start count new
+agree-set entries base start count n entry old new spelled here there =
+    agree-set_among entries base start count n entry old new spelled here (λ m low. there m)
+
+-- no object that is counted is named more often or less
+pub agree-among : {O : Type 0} (entries : List (Entry O)) (base start count : ℕ) (old new : ℕ → ℕ) → ((m : ℕ) → base + start ≤ m → new m ≡ old m) → SharesAgree entries base start count old → SharesAgree entries base start count new
+agree-among entries base start count old new same agreed = record { agree = λ m low high. agreed.agree m low high ∙ sym (same (base + m) (omega arith)) }
 
 -- no object is named more often or less
 pub agree-same : {O : Type 0} (entries : List (Entry O)) (base start count : ℕ) (old new : ℕ → ℕ) → ((m : ℕ) → new m ≡ old m) → SharesAgree entries base start count old → SharesAgree entries base start count new
@@ -174,31 +183,31 @@ nothing-counted test keys node blind nothing =
     ap (λ key. cond (spelled_and test key) 1 0) (get_or-take 16 (drop (16 * node) keys) k None low ∙ get_or-drop (16 * node) keys k None)
     ∙ ap (λ b. cond b 1 0) (blind (key_in keys node k) (nothing k low)))
 
-pub nothing-page : (id : ℕ) (key : Option Key) → NamesNothing key → spelled_and (key_names_page id) key ≡ false
-nothing-page id None h = refl
-nothing-page id (Some Null) h = refl
-nothing-page id (Some (Number body)) h = refl
-nothing-page id (Some (Page page writable)) h = absurd h
-nothing-page id (Some (Node node)) h = absurd h
-nothing-page id (Some (Segment node height)) h = absurd h
-nothing-page id (Some (Start root byte)) h = absurd h
-nothing-page id (Some (Resume root count)) h = absurd h
-nothing-page id (Some (Domain root)) h = absurd h
-nothing-page id (Some (Meter slot)) h = refl
-nothing-page id (Some (Service code)) h = refl
+pub nothing-page : (id : ℕ) → 0 < id → (key : Option Key) → NamesNothing key → spelled_and (key_names_page id) key ≡ false
+nothing-page id real None h = refl
+nothing-page id real (Some Null) h = refl
+nothing-page id real (Some (Number body)) h = refl
+nothing-page id real (Some (Page page writable)) h = ne_eqb page.0 id (λ e. absurd (omega arith))
+nothing-page id real (Some (Node node)) h = refl
+nothing-page id real (Some (Segment node height)) h = refl
+nothing-page id real (Some (Start root byte)) h = refl
+nothing-page id real (Some (Resume root count)) h = refl
+nothing-page id real (Some (Domain root)) h = refl
+nothing-page id real (Some (Meter slot)) h = refl
+nothing-page id real (Some (Service code)) h = refl
 
-pub nothing-node : (id : ℕ) (key : Option Key) → NamesNothing key → spelled_and (key_names_node id) key ≡ false
-nothing-node id None h = refl
-nothing-node id (Some Null) h = refl
-nothing-node id (Some (Number body)) h = refl
-nothing-node id (Some (Page page writable)) h = absurd h
-nothing-node id (Some (Node node)) h = absurd h
-nothing-node id (Some (Segment node height)) h = absurd h
-nothing-node id (Some (Start root byte)) h = absurd h
-nothing-node id (Some (Resume root count)) h = absurd h
-nothing-node id (Some (Domain root)) h = absurd h
-nothing-node id (Some (Meter slot)) h = refl
-nothing-node id (Some (Service code)) h = refl
+pub nothing-node : (id : ℕ) → 15 ≤ id → (key : Option Key) → NamesNothing key → spelled_and (key_names_node id) key ≡ false
+nothing-node id real None h = refl
+nothing-node id real (Some Null) h = refl
+nothing-node id real (Some (Number body)) h = refl
+nothing-node id real (Some (Page page writable)) h = refl
+nothing-node id real (Some (Node node)) h = ne_eqb node.0 id (λ e. absurd (omega arith))
+nothing-node id real (Some (Segment node height)) h = ne_eqb node.0 id (λ e. absurd (omega arith))
+nothing-node id real (Some (Start root byte)) h = ne_eqb root.0 id (λ e. absurd (omega arith))
+nothing-node id real (Some (Resume root count)) h = ne_eqb root.0 id (λ e. absurd (omega arith))
+nothing-node id real (Some (Domain root)) h = ne_eqb root.0 id (λ e. absurd (omega arith))
+nothing-node id real (Some (Meter slot)) h = refl
+nothing-node id real (Some (Service code)) h = refl
 
 -- the keys of a node that became Null are in hand
 page-moved : (keys : List (Option Key)) (node : ℕ) (outside : Outside) (hand : List Key) (id : ℕ) → page_names (overwritten keys (16 * node) (replicate 16 (Some Null))) outside (node_keys keys node ++ hand) id ≡ page_names keys outside hand id
@@ -218,18 +227,18 @@ node-moved keys node outside hand id =
     omega arith
 
 -- a node whose keys became Null, all of which named nothing
-page-idle : (keys : List (Option Key)) (node : ℕ) (outside : Outside) (hand : List Key) (id : ℕ) → ((place : ℕ) → place < 16 → NamesNothing (key_in keys node place)) → page_names (overwritten keys (16 * node) (replicate 16 (Some Null))) outside hand id ≡ page_names keys outside hand id
+page-idle : (keys : List (Option Key)) (node : ℕ) (outside : Outside) (hand : List Key) (id : ℕ) → 0 < id → ((place : ℕ) → place < 16 → NamesNothing (key_in keys node place)) → page_names (overwritten keys (16 * node) (replicate 16 (Some Null))) outside hand id ≡ page_names keys outside hand id
 unfolding page_places
-page-idle keys node outside hand id nothing =
+page-idle keys node outside hand id real nothing =
     let written = nulls-counted (key_names_page id) keys (16 * node) refl in
-    let none = nothing-counted (key_names_page id) keys node (nothing-page id) nothing in
+    let none = nothing-counted (key_names_page id) keys node (nothing-page id real) nothing in
     omega arith
 
-node-idle : (keys : List (Option Key)) (node : ℕ) (outside : Outside) (hand : List Key) (id : ℕ) → ((place : ℕ) → place < 16 → NamesNothing (key_in keys node place)) → node_names (overwritten keys (16 * node) (replicate 16 (Some Null))) outside hand id ≡ node_names keys outside hand id
+node-idle : (keys : List (Option Key)) (node : ℕ) (outside : Outside) (hand : List Key) (id : ℕ) → 15 ≤ id → ((place : ℕ) → place < 16 → NamesNothing (key_in keys node place)) → node_names (overwritten keys (16 * node) (replicate 16 (Some Null))) outside hand id ≡ node_names keys outside hand id
 unfolding node_places
-node-idle keys node outside hand id nothing =
+node-idle keys node outside hand id real nothing =
     let written = nulls-counted (key_names_node id) keys (16 * node) refl in
-    let none = nothing-counted (key_names_node id) keys node (nothing-node id) nothing in
+    let none = nothing-counted (key_names_node id) keys node (nothing-node id real) nothing in
     omega arith
 
 -- a free object is named by nothing
@@ -248,12 +257,12 @@ agree-taken entries base start count n owner old new low high free more others a
     agree-set entries base start count n (Taken owner 1) old new (free_spelled (entry_at entries n) free) here others agreed
 
 -- one that is given back out of hand
-agree-given : {O : Type 0} (entries : List (Entry O)) (base start count n next : ℕ) (old new : ℕ → ℕ) → start ≤ n → n < count → IsTakenOnce (entry_at entries n) → old (base + n) ≡ new (base + n) + 1 → ((m : ℕ) → m ≢ base + n → new m ≡ old m) → SharesAgree entries base start count old → SharesAgree (set entries n (Free next)) base start count new
+agree-given : {O : Type 0} (entries : List (Entry O)) (base start count n next : ℕ) (old new : ℕ → ℕ) → start ≤ n → n < count → IsTakenOnce (entry_at entries n) → old (base + n) ≡ new (base + n) + 1 → ((m : ℕ) → base + start ≤ m → m ≢ base + n → new m ≡ old m) → SharesAgree entries base start count old → SharesAgree (set entries n (Free next)) base start count new
 agree-given entries base start count n next old new low high once less others agreed =
     let one = shared_once (entry_at entries n) once in
     let e = agreed.agree n low high in
     let here : 0 ≡ new (base + n) = omega arith in
-    agree-set entries base start count n (Free next) old new (once_spelled (entry_at entries n) once) here others agreed
+    agree-set_among entries base start count n (Free next) old new (once_spelled (entry_at entries n) once) here others agreed
 
 pub page-taken_in_hand : (kernel new : Kernel) (n : ℕ) (owner : PageOwner) → IsFirstFree kernel.page_entries (first_page kernel.size) kernel.size kernel.machine.free_page n → new ≡ page_taken kernel n owner → PutsPageInHand kernel new (first_page kernel.size + n)
 page-taken_in_hand kernel new n owner head e = record {
@@ -319,7 +328,7 @@ page-given_out_of_hand kernel new n page number below once e outside hand key na
           agree-given kernel.page_entries (first_page kernel.size) 0 kernel.size n kernel.machine.free_page
           (page_names kernel.keys outside (key ∷ hand)) (page_names kernel.keys outside hand) (omega arith) below once
           (page-named_in_hand kernel.keys outside hand (first_page kernel.size + n) key names)
-          (λ m other.
+          (λ m low other.
           sym (page-other_in_hand kernel.keys outside hand m key (one_page (first_page kernel.size + n) m key names other)))
           counted.of_pages;
       of_nodes =
@@ -330,21 +339,22 @@ page-given_out_of_hand kernel new n page number below once e outside hand key na
     })
 
 -- a node is given back, after which another hand is held, that counts as much together with the keys that are left
-node-given : (kernel : Kernel) (n : ℕ) (outside : Outside) (hand left : List Key) (key : Key) → 15 ≤ n → n < kernel.nodes → IsTakenOnce (entry_at kernel.node_entries n) → key_names_node n key ≡ true → ((id : ℕ) → page_names (node_given kernel n).keys outside left id ≡ page_names kernel.keys outside hand id) → ((id : ℕ) → node_names (node_given kernel n).keys outside left id ≡ node_names kernel.keys outside hand id) → Shares kernel outside (key ∷ hand) → Shares (node_given kernel n) outside left
+node-given : (kernel : Kernel) (n : ℕ) (outside : Outside) (hand left : List Key) (key : Key) → 15 ≤ n → n < kernel.nodes → IsTakenOnce (entry_at kernel.node_entries n) → key_names_node n key ≡ true → ((id : ℕ) → 0 < id → page_names (node_given kernel n).keys outside left id ≡ page_names kernel.keys outside hand id) → ((id : ℕ) → 15 ≤ id → node_names (node_given kernel n).keys outside left id ≡ node_names kernel.keys outside hand id) → Shares kernel outside (key ∷ hand) → Shares (node_given kernel n) outside left
+unfolding first_page
 node-given kernel n outside hand left key low below once named pages nodes counted =
     let zero_add : 0 + n ≡ n = omega arith in
     record {
       of_pages =
-          agree-same kernel.page_entries (first_page kernel.size) 0 kernel.size (page_names kernel.keys outside (key ∷ hand))
+          agree-among kernel.page_entries (first_page kernel.size) 0 kernel.size (page_names kernel.keys outside (key ∷ hand))
           (page_names (node_given kernel n).keys outside left)
-          (λ m. pages m ∙ sym (page-other_in_hand kernel.keys outside hand m key (node_no_page n m key named))) counted.of_pages;
+          (λ m some. pages m (omega arith) ∙ sym (page-other_in_hand kernel.keys outside hand m key (node_no_page n m key named))) counted.of_pages;
       of_nodes =
           agree-given kernel.node_entries 0 15 kernel.nodes n kernel.machine.free_node
           (node_names kernel.keys outside (key ∷ hand)) (node_names (node_given kernel n).keys outside left) low below once
           (node-named_in_hand kernel.keys outside hand (0 + n) key (ap (λ id. key_names_node id key) zero_add ∙ named)
-          ∙ ap (λ k. k + 1) (sym (nodes (0 + n))))
-          (λ m other.
-          nodes m
+          ∙ ap (λ k. k + 1) (sym (nodes (0 + n) (omega arith))))
+          (λ m past other.
+          nodes m (omega arith)
           ∙ sym
           (node-other_in_hand kernel.keys outside hand m key (one_node n m key named (λ same. other (same ∙ sym zero_add)))))
           counted.of_nodes;
@@ -356,12 +366,12 @@ node-given_out_of_hand kernel new n low below once e = record {
       λ outside hand key named counted.
       subst (λ (k : Kernel). Shares k outside (node_keys kernel.keys n ++ hand)) (sym e)
       (node-given kernel n outside hand (node_keys kernel.keys n ++ hand) key low below once named
-      (page-moved kernel.keys n outside hand) (node-moved kernel.keys n outside hand) counted);
+      (λ id real. page-moved kernel.keys n outside hand id) (λ id real. node-moved kernel.keys n outside hand id) counted);
   nothing =
       λ outside hand key named nothing counted.
       subst (λ (k : Kernel). Shares k outside hand) (sym e)
-      (node-given kernel n outside hand hand key low below once named (λ id. page-idle kernel.keys n outside hand id nothing)
-      (λ id. node-idle kernel.keys n outside hand id nothing) counted);
+      (node-given kernel n outside hand hand key low below once named (λ id real. page-idle kernel.keys n outside hand id real nothing)
+      (λ id real. node-idle kernel.keys n outside hand id real nothing) counted);
 }
 
 -- Keys that become Null name nothing more.

@@ -13,7 +13,8 @@ use Rattle.kernel_tables.specs.declared.entry.Entry.{Entry}
 use Rattle.kernel_tables.specs.declared.entry.Entry.TheVariants.{Free, Taken, Fixed, Unspelled}
 use Rattle.kernel_tables.specs.declared.machine.Machine.{Machine}
 use Rattle.kernel_tables.specs.Kernel.{Kernel, IsSized, first_page, entry_pages}
-use Rattle.space_bank.specs.FreeList.{entry_at, is_free, next_of, shares, taken_one, is_free_at, IsFreeList, taken_count}
+use Rattle.kernel_tables.specs.Rows.{entry_at}
+use Rattle.space_bank.specs.FreeList.{is_free, next_of, shares, taken_one, is_free_at, IsFreeList, taken_count}
 
 -- The entries of `count` objects, of which the first has the number `base`: each is spelled, the free ones form the list
 -- that begins with `first`, `taken` of them are taken, each of these is named at least once, and rows behind them are
@@ -44,9 +45,11 @@ memory_taken_one Unspelled = 0
 unfoldable pub memory_count : List (Entry PageOwner) → ℕ
 memory_count entries = sum_by memory_taken_one entries
 
--- The pages of the bank: their entries, the number of those that are memory, and zeros in each free page.
+-- The pages of the bank: their entries, none of which is fixed, the number of those that are memory, and zeros in each free
+-- page.
 pub record PagesGood (size : ℕ) (entries : List (Entry PageOwner)) (first taken memory : ℕ) (bank : List (List ℕ)) : Type 0 where
   pub entries_good : EntriesGood entries (first_page size) size first taken
+  pub none_fixed : (n : ℕ) → n < size → entry_at entries n ≢ Fixed
   pub memory_number : memory ≡ memory_count entries
   pub pages : length bank ≡ size
   pub zeros : (n : ℕ) → is_free_at size entries n ≡ true → slice_index_or bank n [] ≡ zero_page

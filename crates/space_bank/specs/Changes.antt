@@ -5,8 +5,7 @@ use Rattle.kn_base.specs.declared.key.Key.{Key}
 use Rattle.kernel_tables.specs.declared.entry.Entry.{Entry}
 use Rattle.kernel_tables.specs.declared.entry.Entry.TheVariants.{Free, Taken, Fixed, Unspelled}
 use Rattle.kernel_tables.specs.Kernel.{Kernel}
-use Rattle.space_bank.specs.FreeList.{entry_at}
-use Rattle.space_bank.specs.Fixed.{key_in}
+use Rattle.kernel_tables.specs.Rows.{entry_at, key_table}
 use Rattle.space_bank.specs.Shares.{Outside, Shares, key_names_page, key_names_node}
 
 -- the object is taken
@@ -56,8 +55,8 @@ TakesNodeKeyOutOfHand old new node =
     (outside : Outside) (hand : List Key) (key : Key) → key_names_node node key ≡ true
     → Shares old outside (key ∷ hand) → Shares new outside hand
 
--- A key was written: it was in hand, and in its place is the key that stood there.
+-- A key was written: it was in hand, and in its place is the key that stood there, or Null where none was spelled.
 abbrev pub ExchangesKeys : Kernel → Kernel → ℕ → ℕ → Key → Type 0
 ExchangesKeys old new node place key =
-    (outside : Outside) (hand : List Key) (was : Key) → key_in old.keys node place ≡ Some was
-    → Shares old outside (key ∷ hand) → Shares new outside (was ∷ hand)
+    (outside : Outside) (hand : List Key)
+    → Shares old outside (key ∷ hand) → Shares new outside (key_table old.keys (16 * node + place) ∷ hand)

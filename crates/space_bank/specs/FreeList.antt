@@ -1,11 +1,9 @@
 -- Free lists: the free objects among so many entries, each once, each naming the next one.
-use Rattle.std.specs.Prelude.{◌≡◌, ℕ, ◌+◌, ◌<◌, ◌≤◌, if◌then◌else◌, ◌==◌, ◌&&◌, ◌||◌, Bool, true, false, nat_lt, List, [], ◌∷◌, slice_index_or}
+use Rattle.std.specs.Prelude.{◌≡◌, ℕ, ◌+◌, ◌<◌, ◌≤◌, if◌then◌else◌, ◌==◌, ◌&&◌, ◌||◌, Bool, true, false, nat_lt, List, [], ◌∷◌}
 use Rattle.std.specs.List.{sum_by}
 use Rattle.kernel_tables.specs.declared.entry.Entry.{Entry}
 use Rattle.kernel_tables.specs.declared.entry.Entry.TheVariants.{Free, Taken, Fixed, Unspelled}
-
-abbrev pub entry_at : {O : Type 0} → List (Entry O) → ℕ → Entry O
-entry_at entries n = slice_index_or entries n Unspelled
+use Rattle.kernel_tables.specs.Rows.{entry_at}
 
 abbrev pub is_free : {O : Type 0} → Entry O → Bool
 is_free (Free next) = true

@@ -2,8 +2,8 @@
 use Rattle.std.specs.Prelude.{◌≡◌, ◌↔◌, ℕ, ◌+◌, ◌-◌, ◌<◌, ◌≤◌, true, cond, Some, List, ◌∷◌}
 use Rattle.kn_base.specs.declared.key.Key.{Key}
 use Rattle.kernel_tables.specs.Kernel.{Kernel, first_page, IsBankPage}
-use Rattle.space_bank.specs.FreeList.{entry_at}
-use Rattle.space_bank.specs.Bank.{IsTakenOnce}
+use Rattle.kernel_tables.specs.Rows.{entry_at}
+use Rattle.space_bank.specs.Bank.{BankGood, NoneFree, IsTakenOnce}
 use Rattle.space_bank.specs.Shares.{Outside, Shares, NamesNothing, key_names_page, key_names_node, page_places, node_places}
 
 -- What is counted once and named by a key in hand stands at no place, so it may be given back.
@@ -19,7 +19,7 @@ NodeInHandIsUnnamed =
     → 15 ≤ node → node < kernel.nodes → IsTakenOnce (entry_at kernel.node_entries node)
     → key_names_node node key ≡ true → Shares kernel outside (key ∷ hand) → node_places kernel.keys node ≡ 0
 
--- A key that names nothing is in hand, or isn't.
+-- A key that names nothing that is counted is in hand, or isn't.
 abbrev pub NothingInHand : Type 0
 NothingInHand =
     (kernel : Kernel) (outside : Outside) (hand : List Key) (key : Key)
@@ -43,3 +43,11 @@ abbrev pub HandedOut : Type 0
 HandedOut =
     (kernel : Kernel) (outside : Outside) (hand : List Key) (key : Key)
     → Shares kernel outside (key ∷ hand) ↔ Shares kernel (and_outside outside key) hand
+
+-- Where no page is free, all are taken.
+abbrev pub NoPageIsFree : Type 0
+NoPageIsFree = (kernel : Kernel) → BankGood kernel → NoneFree kernel.page_entries kernel.size → kernel.size ≤ kernel.machine.pages_taken
+
+-- Where no node is free, all but the fifteen fixed ones are taken.
+abbrev pub NoNodeIsFree : Type 0
+NoNodeIsFree = (kernel : Kernel) → BankGood kernel → NoneFree kernel.node_entries kernel.nodes → kernel.nodes ≤ kernel.machine.nodes_taken + 15

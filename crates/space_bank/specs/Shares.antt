@@ -8,7 +8,8 @@ use Rattle.kernel_tables.specs.declared.entry.PageOwner.{PageOwner}
 use Rattle.kernel_tables.specs.declared.entry.NodeOwner.{NodeOwner}
 use Rattle.kernel_tables.specs.declared.entry.Entry.{Entry}
 use Rattle.kernel_tables.specs.Kernel.{Kernel, first_page}
-use Rattle.space_bank.specs.FreeList.{entry_at, shares}
+use Rattle.kernel_tables.specs.Rows.{entry_at}
+use Rattle.space_bank.specs.FreeList.{shares}
 use Rattle.space_bank.specs.Fixed.{key_in}
 
 -- whether a key names this page
@@ -37,17 +38,17 @@ key_names_node id (Domain root) = root.0 == id
 key_names_node id (Meter slot) = false
 key_names_node id (Service code) = false
 
--- what stands at a place names no page and no node
+-- what stands at a place names no page and no node that is counted: page 0 and the fixed nodes are not
 abbrev pub NamesNothing : Option Key → Type 0
 NamesNothing None = ⊤
 NamesNothing (Some Null) = ⊤
 NamesNothing (Some (Number body)) = ⊤
-NamesNothing (Some (Page page writable)) = ⊥
-NamesNothing (Some (Node node)) = ⊥
-NamesNothing (Some (Segment node height)) = ⊥
-NamesNothing (Some (Start root byte)) = ⊥
-NamesNothing (Some (Resume root count)) = ⊥
-NamesNothing (Some (Domain root)) = ⊥
+NamesNothing (Some (Page page writable)) = page.0 ≡ 0
+NamesNothing (Some (Node node)) = node.0 < 15
+NamesNothing (Some (Segment node height)) = node.0 < 15
+NamesNothing (Some (Start root byte)) = root.0 < 15
+NamesNothing (Some (Resume root count)) = root.0 < 15
+NamesNothing (Some (Domain root)) = root.0 < 15
 NamesNothing (Some (Meter slot)) = ⊤
 NamesNothing (Some (Service code)) = ⊤
 

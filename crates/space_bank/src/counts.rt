@@ -1,9 +1,11 @@
 //! How often pages and nodes are counted.
 
-ghost use Rattle.std.specs.Prelude.{◌≡◌, ℕ, ◌<◌, ◌≤◌, ◌+◌, ◌-◌, ◌^◌};
+ghost use Rattle.std.specs.Prelude.{◌≡◌, ℕ, ◌<◌, ◌≤◌, ◌+◌, ◌-◌, ◌^◌, [], ◌∷◌};
 ghost use Rattle.kn_base.specs.Memory.{Memory};
 ghost use Rattle.kernel_tables.specs.Kernel.{Kernel, kernel_of, Sized, IsSized, IsBankPage, first_page};
-ghost use Rattle.space_bank.specs.FreeList.{entry_at, shares};
+ghost use Rattle.kernel_tables.specs.Blocks.{page_entry_block, node_entry_block, ChangesBlocks};
+ghost use Rattle.kernel_tables.specs.Rows.{entry_at};
+ghost use Rattle.space_bank.specs.FreeList.{shares};
 ghost use Rattle.space_bank.specs.Bank.{BankGood};
 ghost use Rattle.space_bank.specs.Changes.{IsTaken, with_count, page_counted, node_counted, PutsPageKeyInHand, PutsNodeKeyInHand, TakesPageKeyOutOfHand, TakesNodeKeyOutOfHand};
 
@@ -59,6 +61,7 @@ fn count_page<T: Store>(store: &mut T, n: u32, count: u32)
     requires inside { n < (kernel_of (T.memory store.old)).size }
     requires taken { IsTaken (entry_at (kernel_of (T.memory store.old)).page_entries n) }
     ensures counted { kernel_of (T.memory store.new) ≡ page_counted (kernel_of (T.memory store.old)) n count }
+    ensures blocks { ChangesBlocks (T.blocks store.old) (T.blocks store.new) (page_entry_block n ∷ []) }
     ensures keeps { T.keeps store.old store.new }
 {
     let entry = counted(page_entry(store, n), count);
@@ -74,6 +77,7 @@ pub fn raise_page<T: Store>(store: &mut T, page: PageId)
     ensures raised { let old = kernel_of (T.memory store.old) in let n = page.0 - first_page old.size in kernel_of (T.memory store.new) ≡ page_counted old n (shares (entry_at old.page_entries n) + 1) }
     ensures shares { PutsPageKeyInHand (kernel_of (T.memory store.old)) (kernel_of (T.memory store.new)) page.0 }
     ensures good { BankGood (kernel_of (T.memory store.new)) }
+    ensures blocks { ChangesBlocks (T.blocks store.old) (T.blocks store.new) (page_entry_block (page.0 - first_page (kernel_of (T.memory store.old)).size) ∷ []) }
     ensures keeps { T.keeps store.old store.new }
 {
     let n = page.0 - first_bank_page(bank_size(store));
@@ -89,6 +93,7 @@ pub fn lower_page<T: Store>(store: &mut T, page: PageId)
     ensures lowered { let old = kernel_of (T.memory store.old) in let n = page.0 - first_page old.size in kernel_of (T.memory store.new) ≡ page_counted old n (shares (entry_at old.page_entries n) - 1) }
     ensures shares { TakesPageKeyOutOfHand (kernel_of (T.memory store.old)) (kernel_of (T.memory store.new)) page.0 }
     ensures good { BankGood (kernel_of (T.memory store.new)) }
+    ensures blocks { ChangesBlocks (T.blocks store.old) (T.blocks store.new) (page_entry_block (page.0 - first_page (kernel_of (T.memory store.old)).size) ∷ []) }
     ensures keeps { T.keeps store.old store.new }
 {
     let n = page.0 - first_bank_page(bank_size(store));
@@ -101,6 +106,7 @@ fn count_node<T: Store>(store: &mut T, node: NodeId, count: u32)
     requires sized { Sized (kernel_of (T.memory store.old)) }
     requires inside { node.0 < (kernel_of (T.memory store.old)).nodes }
     ensures counted { kernel_of (T.memory store.new) ≡ node_counted (kernel_of (T.memory store.old)) node.0 count }
+    ensures blocks { ChangesBlocks (T.blocks store.old) (T.blocks store.new) (node_entry_block (kernel_of (T.memory store.old)).size node.0 ∷ []) }
     ensures keeps { T.keeps store.old store.new }
 {
     let entry = counted(node_entry(store, node), count);
@@ -116,6 +122,7 @@ pub fn raise_node<T: Store>(store: &mut T, node: NodeId)
     ensures raised { let old = kernel_of (T.memory store.old) in kernel_of (T.memory store.new) ≡ node_counted old node.0 (shares (entry_at old.node_entries node.0) + 1) }
     ensures shares { PutsNodeKeyInHand (kernel_of (T.memory store.old)) (kernel_of (T.memory store.new)) node.0 }
     ensures good { BankGood (kernel_of (T.memory store.new)) }
+    ensures blocks { ChangesBlocks (T.blocks store.old) (T.blocks store.new) (node_entry_block (kernel_of (T.memory store.old)).size node.0 ∷ []) }
     ensures keeps { T.keeps store.old store.new }
 {
     let count = count_in(node_entry(store, node)) + 1;
@@ -130,6 +137,7 @@ pub fn lower_node<T: Store>(store: &mut T, node: NodeId)
     ensures lowered { let old = kernel_of (T.memory store.old) in kernel_of (T.memory store.new) ≡ node_counted old node.0 (shares (entry_at old.node_entries node.0) - 1) }
     ensures shares { TakesNodeKeyOutOfHand (kernel_of (T.memory store.old)) (kernel_of (T.memory store.new)) node.0 }
     ensures good { BankGood (kernel_of (T.memory store.new)) }
+    ensures blocks { ChangesBlocks (T.blocks store.old) (T.blocks store.new) (node_entry_block (kernel_of (T.memory store.old)).size node.0 ∷ []) }
     ensures keeps { T.keeps store.old store.new }
 {
     let count = count_in(node_entry(store, node)) - 1;

@@ -1,13 +1,15 @@
 //! Nodes are taken and given back.
 
-ghost use Rattle.std.specs.Prelude.{◌≡◌, ℕ, ◌<◌, ◌≤◌, ◌+◌, ◌*◌, ◌^◌, MatchOption, IfSome, Some, length, replicate};
+ghost use Rattle.std.specs.Prelude.{◌≡◌, ℕ, ◌<◌, ◌≤◌, ◌+◌, ◌*◌, ◌^◌, MatchOption, IfSome, Some, length, replicate, [], ◌∷◌};
 ghost use Rattle.kn_base.specs.declared.key.Key.TheVariants.{Null};
 ghost use Rattle.kn_base.specs.Rows.{overwritten};
 ghost use Rattle.kn_base.specs.Memory.{Memory};
 ghost use Rattle.kernel_tables.specs.Kernel.{Kernel, kernel_of, Sized, IsSized};
+ghost use Rattle.kernel_tables.specs.Blocks.{machine_block, node_entry_block, key_block, ChangesBlocks};
 ghost use Rattle.space_bank.specs.Shares.{PutsNodeInHand, TakesNodeOutOfHand, node_places};
 ghost use Rattle.space_bank.specs.Fixed.{FixedNodes};
-ghost use Rattle.space_bank.specs.FreeList.{entry_at, is_free};
+ghost use Rattle.kernel_tables.specs.Rows.{entry_at};
+ghost use Rattle.space_bank.specs.FreeList.{is_free};
 ghost use Rattle.space_bank.specs.Bank.{BankGood, NoneFree, IsFirstFree, TakesNode, IsTakenOnce, node_taken, node_given};
 
 use super::entries::next_node;
@@ -36,6 +38,7 @@ fn use_node<T: Store>(store: &mut T, node: NodeId, owner: NodeOwner)
     requires inside { node.0 < (kernel_of (T.memory store.old)).nodes }
     requires few_nodes { (kernel_of (T.memory store.old)).machine.nodes_taken < 2 ^ 31 }
     ensures written { kernel_of (T.memory store.new) ≡ node_taken (kernel_of (T.memory store.old)) node.0 owner }
+    ensures blocks { ChangesBlocks (T.blocks store.old) (T.blocks store.new) (node_entry_block (kernel_of (T.memory store.old)).size node.0 ∷ machine_block ∷ []) }
     ensures keeps { T.keeps store.old store.new }
 {
     let next = next_node(node_entry(store, node));
@@ -51,6 +54,7 @@ pub fn take_node<T: Store>(store: &mut T, owner: NodeOwner) -> Option<NodeId>
     ensures taken { let old = kernel_of (T.memory store.old) in let new = kernel_of (T.memory store.new) in MatchOption result (NoneFree old.node_entries old.nodes × (new ≡ old)) (λ node. TakesNode old new node.0 owner) }
     ensures shares { IfSome result (λ node. PutsNodeInHand (kernel_of (T.memory store.old)) (kernel_of (T.memory store.new)) node.0) }
     ensures good { BankGood (kernel_of (T.memory store.new)) }
+    ensures blocks { MatchOption result (T.blocks store.new ≡ T.blocks store.old) (λ node. ChangesBlocks (T.blocks store.old) (T.blocks store.new) (node_entry_block (kernel_of (T.memory store.old)).size node.0 ∷ machine_block ∷ [])) }
     ensures keeps { T.keeps store.old store.new }
 {
     match first_free_node(store) {
@@ -68,6 +72,7 @@ fn clear_keys<T: Store>(store: &mut T, node: NodeId)
     requires inside { node.0 < (kernel_of (T.memory store.old)).nodes }
     requires keys { 16 * node.0 + 16 ≤ length (kernel_of (T.memory store.old)).keys }
     ensures cleared { kernel_of (T.memory store.new) ≡ record (kernel_of (T.memory store.old)) { keys = overwritten (kernel_of (T.memory store.old)).keys (16 * node.0) (replicate 16 (Some Null)) } }
+    ensures blocks { ChangesBlocks (T.blocks store.old) (T.blocks store.new) (key_block (kernel_of (T.memory store.old)).pages node.0 ∷ []) }
     ensures keeps { T.keeps store.old store.new }
 {
     for place in 0..16 {
@@ -82,6 +87,7 @@ fn free_up<T: Store>(store: &mut T, node: NodeId)
     requires keys { 16 * node.0 + 16 ≤ length (kernel_of (T.memory store.old)).keys }
     requires some_node { 1 ≤ (kernel_of (T.memory store.old)).machine.nodes_taken }
     ensures written { kernel_of (T.memory store.new) ≡ node_given (kernel_of (T.memory store.old)) node.0 }
+    ensures blocks { ChangesBlocks (T.blocks store.old) (T.blocks store.new) (key_block (kernel_of (T.memory store.old)).pages node.0 ∷ node_entry_block (kernel_of (T.memory store.old)).size node.0 ∷ machine_block ∷ []) }
     ensures keeps { T.keeps store.old store.new }
 {
     clear_keys(store, node);
@@ -102,6 +108,7 @@ pub fn give_node<T: Store>(store: &mut T, node: NodeId)
     ensures shares { TakesNodeOutOfHand (kernel_of (T.memory store.old)) (kernel_of (T.memory store.new)) node.0 }
     ensures fixed { FixedNodes (kernel_of (T.memory store.old)).keys → FixedNodes (kernel_of (T.memory store.new)).keys }
     ensures good { BankGood (kernel_of (T.memory store.new)) }
+    ensures blocks { ChangesBlocks (T.blocks store.old) (T.blocks store.new) (key_block (kernel_of (T.memory store.old)).pages node.0 ∷ node_entry_block (kernel_of (T.memory store.old)).size node.0 ∷ machine_block ∷ []) }
     ensures keeps { T.keeps store.old store.new }
 {
     free_up(store, node);

@@ -1,11 +1,13 @@
 //! Pages are taken and given back.
 
-ghost use Rattle.std.specs.Prelude.{◌≡◌, ℕ, ◌<◌, ◌≤◌, ◌+◌, ◌-◌, ◌^◌, MatchOption, IfSome};
+ghost use Rattle.std.specs.Prelude.{◌≡◌, ℕ, ◌<◌, ◌≤◌, ◌+◌, ◌-◌, ◌^◌, MatchOption, IfSome, [], ◌∷◌};
 ghost use Rattle.kn_base.specs.Memory.{Memory};
 ghost use Rattle.kernel_tables.specs.Kernel.{Kernel, kernel_of, Sized, IsSized, first_page};
+ghost use Rattle.kernel_tables.specs.Blocks.{machine_block, page_entry_block, ChangesBlocks};
 ghost use Rattle.space_bank.specs.Bank.{BankGood, NoneFree, IsFirstFree, TakesPage, IsTakenOnce, memory_taken_one, page_taken, page_given};
 ghost use Rattle.space_bank.specs.Shares.{PutsPageInHand, TakesPageOutOfHand, page_places};
-ghost use Rattle.space_bank.specs.FreeList.{entry_at, is_free};
+ghost use Rattle.kernel_tables.specs.Rows.{entry_at};
+ghost use Rattle.space_bank.specs.FreeList.{is_free};
 
 use super::entries::{memory_pages, memory_pages_of, next_page};
 use kernel_tables::{
@@ -35,6 +37,7 @@ fn use_page<T: Store>(store: &mut T, n: u32, owner: PageOwner)
     requires few_pages { (kernel_of (T.memory store.old)).machine.pages_taken < 2 ^ 31 }
     requires few_of_memory { (kernel_of (T.memory store.old)).machine.memory_taken < 2 ^ 31 }
     ensures written { kernel_of (T.memory store.new) ≡ page_taken (kernel_of (T.memory store.old)) n owner }
+    ensures blocks { ChangesBlocks (T.blocks store.old) (T.blocks store.new) (page_entry_block n ∷ machine_block ∷ []) }
     ensures keeps { T.keeps store.old store.new }
 {
     let next = next_page(page_entry(store, n));
@@ -52,6 +55,7 @@ pub fn take_page<T: Store>(store: &mut T, owner: PageOwner) -> Option<PageId>
     ensures taken { let old = kernel_of (T.memory store.old) in let new = kernel_of (T.memory store.new) in MatchOption result (NoneFree old.page_entries old.size × (new ≡ old)) (λ page. TakesPage old new page.0 owner) }
     ensures shares { IfSome result (λ page. PutsPageInHand (kernel_of (T.memory store.old)) (kernel_of (T.memory store.new)) page.0) }
     ensures good { BankGood (kernel_of (T.memory store.new)) }
+    ensures blocks { MatchOption result (T.blocks store.new ≡ T.blocks store.old) (λ page. ChangesBlocks (T.blocks store.old) (T.blocks store.new) (page_entry_block (page.0 - first_page (kernel_of (T.memory store.old)).size) ∷ machine_block ∷ [])) }
     ensures keeps { T.keeps store.old store.new }
 {
     match first_free_page(store) {
@@ -71,6 +75,7 @@ fn free_up<T: Store>(store: &mut T, n: u32, page: u32)
     requires some_page { 1 ≤ (kernel_of (T.memory store.old)).machine.pages_taken }
     requires some_memory { memory_taken_one (entry_at (kernel_of (T.memory store.old)).page_entries n) ≤ (kernel_of (T.memory store.old)).machine.memory_taken }
     ensures written { kernel_of (T.memory store.new) ≡ page_given (kernel_of (T.memory store.old)) n }
+    ensures blocks { ChangesBlocks (T.blocks store.old) (T.blocks store.new) (page ∷ page_entry_block n ∷ machine_block ∷ []) }
     ensures keeps { T.keeps store.old store.new }
 {
     let was_memory = memory_pages_of(page_entry(store, n));
@@ -94,6 +99,7 @@ pub fn give_page<T: Store>(store: &mut T, page: PageId)
     ensures given { let old = kernel_of (T.memory store.old) in kernel_of (T.memory store.new) ≡ page_given old (page.0 - first_page old.size) }
     ensures shares { TakesPageOutOfHand (kernel_of (T.memory store.old)) (kernel_of (T.memory store.new)) page.0 }
     ensures good { BankGood (kernel_of (T.memory store.new)) }
+    ensures blocks { ChangesBlocks (T.blocks store.old) (T.blocks store.new) (page.0 ∷ page_entry_block (page.0 - first_page (kernel_of (T.memory store.old)).size) ∷ machine_block ∷ []) }
     ensures keeps { T.keeps store.old store.new }
 {
     let n = page.0 - first_bank_page(bank_size(store));

@@ -1,8 +1,9 @@
 //! Promised pages, and the words of the machine page.
 
-ghost use Rattle.std.specs.Prelude.{◌≡◌, ◌⊎◌, ℕ, ◌<◌, ◌≤◌, ◌+◌, ◌-◌, ◌*◌, ◌%◌, ◌^◌, ◌↔◌, IsTrue, if◌then◌else◌};
+ghost use Rattle.std.specs.Prelude.{◌≡◌, ◌⊎◌, ℕ, ◌<◌, ◌≤◌, ◌+◌, ◌-◌, ◌*◌, ◌%◌, ◌^◌, ◌↔◌, IsTrue, if◌then◌else◌, [], ◌∷◌};
 ghost use Rattle.kn_base.specs.Memory.{Memory};
 ghost use Rattle.kernel_tables.specs.Kernel.{Kernel, kernel_of, Sized, IsSized};
+ghost use Rattle.kernel_tables.specs.Blocks.{machine_block, ChangesBlocks};
 ghost use Rattle.space_bank.specs.Bank.{BankGood, word_at, with_word_at};
 
 use kernel_tables::{
@@ -28,6 +29,7 @@ pub fn promise<T: Store>(store: &mut T, pages: u32) -> bool
     ensures granted { IsTrue result ↔ ((kernel_of (T.memory store.old)).machine.promised + pages ≤ (kernel_of (T.memory store.old)).size) }
     ensures after { let old = kernel_of (T.memory store.old) in kernel_of (T.memory store.new) ≡ (if result then record old { machine = record old.machine { promised = old.machine.promised + pages } } else old) }
     ensures good { BankGood (kernel_of (T.memory store.new)) }
+    ensures blocks { ChangesBlocks (T.blocks store.old) (T.blocks store.new) (machine_block ∷ []) }
     ensures keeps { T.keeps store.old store.new }
 {
     let before = kernel_tables::promised(store);
@@ -45,6 +47,7 @@ pub fn unpromise<T: Store>(store: &mut T, pages: u32)
     requires promised { pages ≤ (kernel_of (T.memory store.old)).machine.promised }
     ensures after { let old = kernel_of (T.memory store.old) in kernel_of (T.memory store.new) ≡ record old { machine = record old.machine { promised = old.machine.promised - pages } } }
     ensures good { BankGood (kernel_of (T.memory store.new)) }
+    ensures blocks { ChangesBlocks (T.blocks store.old) (T.blocks store.new) (machine_block ∷ []) }
     ensures keeps { T.keeps store.old store.new }
 {
     let before = kernel_tables::promised(store);
@@ -97,6 +100,7 @@ pub fn set_machine_word<T: Store>(store: &mut T, at: u16, value: u32)
     requires process_id { at ≡ 12 → value ≤ 2 ^ 31 }
     ensures written { let old = kernel_of (T.memory store.old) in kernel_of (T.memory store.new) ≡ record old { machine = with_word_at old.machine at value } }
     ensures good { BankGood (kernel_of (T.memory store.new)) }
+    ensures blocks { ChangesBlocks (T.blocks store.old) (T.blocks store.new) (machine_block ∷ []) }
     ensures keeps { T.keeps store.old store.new }
 {
     if at == 8 {

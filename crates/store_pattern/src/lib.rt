@@ -5,8 +5,6 @@
 mod keys;
 mod ledger;
 mod pages;
-#[cfg(test)]
-mod tests;
 mod visitor;
 
 pub use keys::{clear_node, copy_node};

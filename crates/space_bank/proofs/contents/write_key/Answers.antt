@@ -3,6 +3,8 @@ use Rattle.kernel_tables.specs.Kernel.{Kernel, kernel_of}
 use Rattle.space_bank.specs.Fixed.{FixedNodes}
 use Rattle.space_bank.proofs.FixedLaws.{fixed_nodes-set}
 use Rattle.space_bank.proofs.ChangeLaws.{keys-exchanged}
+use Rattle.kernel_tables.specs.Blocks.{key_block}
+use Rattle.kernel_tables.proofs.BlockLaws.{one_block}
 use Rattle.space_bank.proofs.contents.write_key.Goals as goal
 
 pub returns-clause-shares : goal.returns-clause-shares
@@ -16,3 +18,6 @@ returns-clause-fixed g c high fixed =
     let kernel = kernel_of (g.T.Store.memory c.args.store.now) in
     subst (λ (k : Kernel). FixedNodes k.keys) (sym c.set_key_at.ensures.written)
     (fixed_nodes-set kernel.keys (16 * c.args.node.0 + c.args.place) (Some c.args.key) (omega arith) fixed)
+
+pub returns-clause-blocks : goal.returns-clause-blocks
+returns-clause-blocks g c = one_block (key_block (kernel_of (g.T.Store.memory c.args.store.now)).pages c.args.node.0) c.set_key_at.ensures.one_block

@@ -1,6 +1,7 @@
 use Rattle.std.proofs.Common.{ℕ, ◌+◌, ◌∙◌, sym, ap, subst, arith}
 use Rattle.kernel_tables.specs.Kernel.{kernel_of}
-use Rattle.space_bank.specs.FreeList.{entry_at, shares}
+use Rattle.kernel_tables.specs.Rows.{entry_at}
+use Rattle.space_bank.specs.FreeList.{shares}
 use Rattle.space_bank.specs.Bank.{BankGood}
 use Rattle.space_bank.specs.Changes.{IsTaken, node_counted}
 use Rattle.space_bank.proofs.ChangeLaws.{node-raised, bank_good-node_counted, taken_high}

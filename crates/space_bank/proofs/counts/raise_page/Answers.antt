@@ -1,8 +1,11 @@
 use Rattle.std.proofs.Common.{◌≡◌, ◌+◌, ◌-◌, ◌<◌, ◌∙◌, sym, ap, subst, arith}
 use Rattle.kernel_tables.specs.Kernel.{kernel_of, first_page}
-use Rattle.space_bank.specs.FreeList.{entry_at, shares}
+use Rattle.kernel_tables.specs.Rows.{entry_at}
+use Rattle.space_bank.specs.FreeList.{shares}
 use Rattle.space_bank.specs.Bank.{BankGood}
 use Rattle.space_bank.proofs.ChangeLaws.{page-raised, bank_good-page_counted, counted_by_number}
+use Rattle.std.proofs.Common.{ℕ, [], ◌∷◌}
+use Rattle.kernel_tables.specs.Blocks.{ChangesBlocks, page_entry_block}
 use Rattle.space_bank.proofs.counts.raise_page.Goals as goal
 
 pub returns-clause-shares : goal.returns-clause-shares
@@ -26,3 +29,8 @@ returns-clause-good g c =
     c.count_page.ensures.counted))
     (bank_good-page_counted kernel (c.args.page.0 - first_page kernel.size)
     (shares (entry_at kernel.page_entries (c.args.page.0 - first_page kernel.size)) + 1) inside c.requires.taken (omega arith) c.requires.good)
+
+pub returns-clause-blocks : goal.returns-clause-blocks
+returns-clause-blocks g c =
+    subst (λ (first : ℕ). ChangesBlocks (g.T.Store.blocks c.args.store.now) (g.T.Store.blocks c.count_page.new.store) (page_entry_block (c.args.page.0 - first) ∷ []))
+    (c.first_bank_page.ensures ∙ ap first_page c.bank_size.ensures) c.count_page.ensures.blocks

@@ -2,7 +2,7 @@ use Rattle.std.proofs.Common.{ℕ, ◌*◌, ◌<◌, ◌≤◌, Some, replicate,
 use Rattle.std.proofs.lemmas.Bool.{cases_lt}
 use Rattle.kn_base.specs.declared.key.Key.TheVariants.{Null}
 use Rattle.kernel_tables.specs.Kernel.{Kernel}
-use Rattle.space_bank.specs.FreeList.{entry_at}
+use Rattle.kernel_tables.specs.Rows.{entry_at}
 use Rattle.space_bank.specs.Bank.{IsTakenOnce}
 use Rattle.space_bank.specs.Fixed.{FixedNodes}
 use Rattle.space_bank.proofs.FixedLaws.{fixed_nodes-overwritten}

@@ -1,9 +1,11 @@
 use Rattle.std.proofs.Common.{◌≡◌, ℕ, ◌+◌, ◌-◌, ◌<◌, ◌≤◌, ◌∙◌, sym, ap, subst, arith}
 use Rattle.kernel_tables.specs.Kernel.{kernel_of, first_page}
-use Rattle.space_bank.specs.FreeList.{entry_at}
+use Rattle.kernel_tables.specs.Rows.{entry_at}
 use Rattle.space_bank.specs.Bank.{BankGood, IsTakenOnce, memory_taken_one}
 use Rattle.space_bank.proofs.BankLaws.{bank_good-page_given, page-counted}
 use Rattle.space_bank.proofs.ShareLaws.{page-given_out_of_hand}
+use Rattle.std.proofs.Common.{[], ◌∷◌}
+use Rattle.kernel_tables.specs.Blocks.{ChangesBlocks, machine_block, page_entry_block}
 use Rattle.space_bank.proofs.pages.give_page.Goals as goal
 
 pub free_up-requires-clause-some_page : goal.free_up-requires-clause-some_page
@@ -48,3 +50,8 @@ returns-clause-shares g c =
     in
     page-given_out_of_hand kernel (kernel_of (g.T.Store.memory c.free_up.new.store))
     (c.args.page.0 - c.first_bank_page.result) c.args.page.0 number inside taken c.free_up.ensures.written
+
+pub returns-clause-blocks : goal.returns-clause-blocks
+returns-clause-blocks g c =
+    subst (λ (first : ℕ). ChangesBlocks (g.T.Store.blocks c.args.store.now) (g.T.Store.blocks c.free_up.new.store) (c.args.page.0 ∷ page_entry_block (c.args.page.0 - first) ∷ machine_block ∷ []))
+    (c.first_bank_page.ensures ∙ ap first_page c.bank_size.ensures) c.free_up.ensures.blocks

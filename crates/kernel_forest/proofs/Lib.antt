@@ -1,0 +1,10 @@
+pub mod Bridge
+pub mod RowLaws
+pub mod Outside
+pub mod Moves
+pub mod InTrees
+pub mod Giving
+pub mod GivingNodes
+pub mod TakingPages
+pub mod NoTree
+pub mod Empty

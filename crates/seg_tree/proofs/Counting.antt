@@ -1,0 +1,68 @@
+-- How many pages stand below a key.
+use Rattle.std.proofs.Common.{◌≡◌, ◌≢◌, ◌≤◌, ◌+◌, ◌-◌, ◌*◌, ℕ, zero, suc, Some, true, false, refl, ap, sym, arith, ⊎_elim, add-one}
+use Rattle.std.specs.Option.{is_some, IsSome}
+use Rattle.std.proofs.lemmas.Bool.{cases_Bool}
+use Rattle.kn_base.specs.declared.key.Key.{Key}
+use Rattle.unix_model.specs.Tables.{sum_below}
+use Rattle.forest.specs.Objects.{NodeObject, named}
+use Rattle.forest.specs.Walks.{place_of, key_below, mapping_of}
+use Rattle.forest.specs.Forest.{Forest, Sound}
+use Rattle.forest.specs.Mapped.{pages_below}
+use Rattle.forest.proofs.OwnLaws.{owned_object}
+use Rattle.forest.proofs.WalkLaws.{step}
+
+-- at most so many pages stand so many levels below a key
+most : ℕ → ℕ
+most zero = 1
+most (suc levels) = 16 * most levels
+
+sum_most : (f : ℕ → ℕ) (n m : ℕ) → ((k : ℕ) → f k ≤ m) → sum_below f n ≤ n * m
+unfolding sum_below
+sum_most f zero m few = omega arith
+sum_most f (suc n) m few = let rest = sum_most f n m few in let here = few n in omega arith
+
+below_most : (keys : ℕ → Key) (key : Key) (levels : ℕ) → pages_below keys key levels ≤ most levels
+unfolding most
+below_most keys key zero = ⊎_elim
+    (λ (t : is_some (mapping_of key) ≡ true). rw t (omega arith))
+    (λ (t : is_some (mapping_of key) ≡ false). rw t (omega arith))
+    (cases_Bool (is_some (mapping_of key)))
+below_most keys key (suc levels) = sum_most (λ digit. pages_below keys (key_below keys key digit) levels) 16 (most levels) (λ digit. below_most keys (key_below keys key digit) levels)
+
+few_most : (levels : ℕ) → levels ≤ 4 → most levels ≤ 65536
+unfolding most
+few_most zero low = omega arith
+few_most (suc zero) low = omega arith
+few_most (suc (suc zero)) low = omega arith
+few_most (suc (suc (suc zero))) low = omega arith
+few_most (suc (suc (suc (suc zero)))) low = omega arith
+few_most (suc (suc (suc (suc (suc levels))))) low = absurd (omega arith)
+
+pub below_few : (keys : ℕ → Key) (key : Key) (levels : ℕ) → levels ≤ 4 → pages_below keys key levels ≤ 65536
+below_few keys key levels low = let a = below_most keys key levels in let b = few_most levels low in omega arith
+
+pub sum_few : (f : ℕ → ℕ) (n : ℕ) → ((k : ℕ) → f k ≤ 65536) → sum_below f n ≤ n * 65536
+sum_few f n few = sum_most f n 65536 few
+
+pub none_so_far : (f : ℕ → ℕ) → sum_below f 0 ≡ 0
+unfolding sum_below
+none_so_far f = refl
+
+pub one_more_part : (f : ℕ → ℕ) (n pages part : ℕ) → pages ≡ sum_below f n → part ≡ f n → pages + part ≡ sum_below f (n + 1)
+unfolding sum_below
+one_more_part f n pages part so_far here = rw (add-one n) (omega arith)
+
+pub pages_leaf : (keys : ℕ → Key) (key : Key) (levels : ℕ) → levels ≡ 0 → pages_below keys key levels ≡ pages_below keys key 0
+pages_leaf keys key levels e = ap (pages_below keys key) e
+
+pub pages_split : (keys : ℕ → Key) (key : Key) (levels : ℕ) → levels ≢ 0
+    → pages_below keys key levels ≡ sum_below (λ digit. pages_below keys (key_below keys key digit) (levels - 1)) 16
+pages_split keys key zero some = absurd (some refl)
+pages_split keys key (suc levels) some =
+    let e : suc levels - 1 ≡ levels = omega arith in
+    ap (λ n. sum_below (λ digit. pages_below keys (key_below keys key digit) n) 16) (sym e)
+
+pub below_owned : (forest : Forest) → Sound forest → (upper : Key) (digit node : ℕ) → named (key_below forest.keys upper digit) ≡ Some (NodeObject node) → IsSome (forest.owner (NodeObject node))
+below_owned forest sound upper digit node h =
+    let s = step forest.keys upper digit (NodeObject node) h in
+    owned_object forest sound (place_of s.node digit) (NodeObject node) s.here

@@ -1,0 +1,11 @@
+pub mod Copying
+pub mod Children
+pub mod Owning
+pub mod Levels
+pub mod Walking
+pub mod Mapping
+pub mod Adding
+pub mod Emptying
+pub mod Sharing
+pub mod Replacing
+pub mod Counting

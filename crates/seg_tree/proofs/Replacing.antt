@@ -1,0 +1,156 @@
+-- The key of a mapped page is counted once more, put in the other one's place, and the other one released.
+use Rattle.std.proofs.Common.{◌≡◌, ◌<◌, ◌≤◌, ◌%◌, ◌^◌, ◌==◌, ℕ, Option, Some, None, [], ◌∷◌, Bool, false, ap, sym, subst, ◌∙◌, arith, ⊎_elim, if◌then◌else◌}
+use Rattle.std.specs.Option.{is_some}
+use Rattle.std.proofs.lemmas.Bool.{cases_lt}
+use Rattle.kn_base.specs.declared.key.Key.{Key}
+use Rattle.kn_base.specs.declared.key.Key.TheVariants.{Null, Page, Segment}
+use Rattle.kn_base.specs.declared.key.PageId.{PageId}
+use Rattle.kernel_tables.specs.Kernel.{Kernel, IsBankPage}
+use Rattle.space_bank.specs.Bank.{BankGood}
+use Rattle.space_bank.specs.Shares.{Outside}
+use Rattle.unix_model.specs.Tables.{at, with_at}
+use Rattle.forest.specs.Objects.{Object, PageObject, NodeObject, Owner, named}
+use Rattle.forest.specs.Walks.{place_of, key_along, space_key, map_of, mapping_of, Mapping}
+use Rattle.forest.specs.Forest.{Forest, Held, IsSpace, NoneEmpty, node_way}
+use Rattle.forest.specs.Calls.{ChangesMap}
+use Rattle.forest.proofs.HeldLaws.{raise_keeps_held}
+use Rattle.forest.proofs.OwnLaws.{owned_object}
+use Rattle.forest.proofs.OwnMaps.{way_of_node}
+use Rattle.forest.proofs.ReachLaws.{way_owner}
+use Rattle.forest.proofs.WalkLaws.{step}
+use Rattle.kernel_forest.specs.Trees.{forest_of, outside_trees, TreesGood}
+use Rattle.kernel_forest.specs.Moves.{KeepsRest, RaisesKey, MayRaise}
+use Rattle.kernel_forest.specs.Releases.{Releasing, Lets}
+use Rattle.forest.proofs.ReleaseLaws.{release_leaves_none_empty}
+use Rattle.kernel_forest.proofs.GivingNodes.{unreleased, same_bytes}
+use Rattle.kernel_forest.proofs.InTrees.{AllTreeKeys, AllSingle}
+use Rattle.seg_tree.specs.Leaves.{PutsLeaf}
+use Rattle.seg_tree.specs.Promises.{Replaces}
+use Rattle.seg_tree.proofs.Copying.{more_owner, more_keys, rest_trans}
+use Rattle.seg_tree.proofs.Emptying.{unreleased_trans}
+use Rattle.seg_tree.proofs.Levels.{few_named}
+use Rattle.seg_tree.proofs.Mapping.{map_here}
+
+abbrev pub page_or_zero : Option Mapping → ℕ
+page_or_zero None = 0
+page_or_zero (Some mapping) = mapping.page
+
+-- the key of the same page, however it may be used, names the same
+same_page : (key : Key) (writable other : Bool) (id : PageId) → mapping_of key ≡ Some (record { writable = writable; page = id.0 }) → named key ≡ named (Page id other)
+same_page (Page page own) writable other id h =
+    let same : page.0 ≡ id.0 = ap page_or_zero h in
+    ap (λ (n : ℕ). if n == 0 then None else Some (PageObject n)) same
+same_page Null writable other id h = cc
+same_page (Segment node height) writable other id h = cc
+same_page _ writable other id h = cc
+
+-- what the key of a mapped page names stands in the tree, and belongs to it
+pub record Mapped (forest : Forest) (space : ℕ) (object : Object) : Type 0 where
+  pub place : ℕ
+  pub stands : named (at forest.keys place) ≡ Some object
+  pub owner : forest.owner object ≡ forest.owner (NodeObject space)
+
+pub mapped_here : (forest : Forest) (outside : Object → ℕ) (space page : ℕ) (writable other : Bool) (id : PageId) → Held forest outside [] → page < 2 ^ 19
+    → map_of forest.keys space page ≡ Some (record { writable = writable; page = id.0 })
+    → (object : Object) → named (Page id other) ≡ Some object → Mapped forest space object
+mapped_here forest outside space page writable other id held below found object h =
+    let key = key_along forest.keys (space_key space) (page % 16 ∷ node_way page) in
+    let ends : named (key_along forest.keys (space_key space) (page % 16 ∷ node_way page)) ≡ Some object =
+    same_page (key_along forest.keys (space_key space) (page % 16 ∷ node_way page)) writable other id (sym (map_here forest.keys space page below) ∙ found) ∙ h in
+    let s = step forest.keys (key_along forest.keys (space_key space) (node_way page)) (page % 16) object ends in
+    record {
+      place = place_of s.node (page % 16);
+      stands = s.here;
+      owner = way_owner forest held.sound space (page % 16 ∷ node_way page) (omega arith, way_of_node page) object ends;
+    }
+
+module _ (k0 : Kernel) (space page : ℕ) (writable : Bool) (id : PageId) (good : BankGood k0) (below : page < 2 ^ 19)
+    (found : map_of (forest_of k0).keys space page ≡ Some (record { writable = writable; page = id.0 })) where
+  mapped_at : (outside : Outside) → TreesGood k0 outside [] → (object : Object) → named (Page id false) ≡ Some object → Mapped (forest_of k0) space object
+  mapped_at outside trees object h = mapped_here (forest_of k0) (outside_trees k0 outside) space page writable false id trees.held below found object h
+
+  pub may_protect : (outside : Outside) → TreesGood k0 outside [] → MayRaise (forest_of k0) (Page id false)
+  may_protect outside trees object h =
+      let here = mapped_at outside trees object h in
+      let few = few_named k0 outside [] good trees here.place object here.stands in
+      (owned_object (forest_of k0) trees.held.sound here.place object here.stands, omega arith)
+
+  pub raised_trees : (k1 : Kernel) (outside : Outside) → TreesGood k0 outside [] → RaisesKey k0 k1 (Page id false) → TreesGood k1 outside (Page id false ∷ [])
+  raised_trees k1 outside trees raises = record {
+    shares = raises.shares outside [] trees.shares;
+    held = subst (λ out. Held (forest_of k1) out (Page id false ∷ [])) (sym (raises.steps.outside_now outside))
+        (subst (λ f. Held f (outside_trees k0 outside) (Page id false ∷ [])) (sym raises.steps.forest_now)
+        (raise_keeps_held (forest_of k0) (outside_trees k0 outside) [] (Page id false) trees.held (λ object h.
+        let here = mapped_at outside trees object h in (
+          owned_object (forest_of k0) trees.held.sound here.place object here.stands,
+          ⊎_elim
+              (λ (t : outside_trees k0 outside object < 1). let none : outside_trees k0 outside object ≡ 0 = omega arith in none)
+              (λ (t : 1 ≤ outside_trees k0 outside object). absurd ((trees.held.apart object t).0 here.place here.stands))
+              (cases_lt (outside_trees k0 outside object) 1),
+        ))));
+    in_hand = (tt, tt);
+    short = omega arith;
+    in_trees = subst (λ (f : Forest). AllTreeKeys f.keys) (sym raises.steps.forest_now)
+        (subst AllTreeKeys (sym (more_keys (forest_of k0) (named (Page id false)))) trees.in_trees);
+    single = subst (λ out. AllSingle (forest_of k1) out) (sym (raises.steps.outside_now outside))
+        (subst (λ (f : Forest). AllSingle f (outside_trees k0 outside)) (sym raises.steps.forest_now)
+        (λ object some. trees.single object (ap (λ (o : Object → Option Owner). is_some (o object)) (sym (more_owner (forest_of k0) (named (Page id false)))) ∙ some)));
+  }
+
+  module _ (k1 : Kernel) (raises : RaisesKey k0 k1 (Page id false)) where
+    owner_same : (forest_of k1).owner ≡ (forest_of k0).owner
+    owner_same = ap (λ (f : Forest). f.owner) raises.steps.forest_now ∙ more_owner (forest_of k0) (named (Page id false))
+
+    keys_same : (forest_of k1).keys ≡ (forest_of k0).keys
+    keys_same = ap (λ (f : Forest). f.keys) raises.steps.forest_now ∙ more_keys (forest_of k0) (named (Page id false))
+
+    pub raised_space : (other : ℕ) → IsSpace (forest_of k0) [] other → IsSpace (forest_of k1) [] other
+    raised_space other is = record {
+      owned = ap (λ (o : Object → Option Owner). is_some (o (NodeObject other))) owner_same ∙ is.owned;
+      unnamed = λ place h. is.unnamed place (ap (λ (keys : ℕ → Key). named (at keys place)) (sym keys_same) ∙ h);
+      not_in_hand = is.not_in_hand;
+    }
+
+    pub raised_owners : (outside : Outside) → TreesGood k0 outside [] → (object : Object) → named (Page id false) ≡ Some object → (forest_of k1).owner object ≡ (forest_of k1).owner (NodeObject space)
+    raised_owners outside trees object h =
+        let here = mapped_at outside trees object h in
+        ap (λ (o : Object → Option Owner). o object) owner_same ∙ here.owner ∙ sym (ap (λ (o : Object → Option Owner). o (NodeObject space)) owner_same)
+
+    pub replaced : (k2 k3 : Kernel) (was : Key) → PutsLeaf k1 k2 space page (Page id false) was → Lets k2 k3 (was ∷ []) [] → k3.machine.nodes_taken ≡ k2.machine.nodes_taken
+        → (known : Outside) → TreesGood k0 known []
+        → Replaces k0 k3 space 4 (with_at (map_of (forest_of k0).keys space) page (Some (record { writable = false; page = id.0 })))
+    replaced k2 k3 was put lets nodes known known_trees = record {
+      changes = λ outside trees.
+          let done = put.after outside (raised_trees k1 outside trees raises) k3 lets in
+          (done.0, subst (λ (keys : ℕ → Key). ChangesMap (forest_of k0) (forest_of k3) space (with_at (map_of keys space) page (Some (record { writable = false; page = id.0 })))) keys_same (back done.1));
+      filled = λ filled.
+          let now = put.filled (λ e. cc) (subst NoneEmpty (sym keys_same) filled) in
+          let hand = put.hand known (raised_trees k1 known known_trees raises) in
+          stays_filled hand now;
+      outside_now = λ outside. lets.outside_now outside ∙ put.outside_now outside ∙ raises.steps.outside_now outside;
+      rows_now = λ mine apart. lets.rows_now mine apart ∙ put.rows_now mine apart ∙ raises.steps.rows_now mine apart;
+      rest = unreleased_trans k0 k2 k3 (unreleased k0 k2 rest) lets.rest;
+      bytes = λ number inside still.
+          let pages : (forest_of k2).owner (PageObject number) ≡ (forest_of k0).owner (PageObject number) = put.pages_now number ∙ ap (λ (o : Object → Option Owner). o (PageObject number)) owner_same in
+          let size : k0.size ≡ k2.size = sym (ap (λ (k : Kernel). k.size) rest) in
+          lets.keeps.bytes number (subst (λ s. IsBankPage s number) size inside) (λ some. still (ap is_some (sym pages) ∙ some))
+          ∙ same_bytes k0 k2 rest number;
+      most = let a = put.most in let b = raises.steps.number in omega arith;
+    }
+      where
+        rest : KeepsRest k0 k2
+        rest = rest_trans k0 k1 k2 raises.steps.rest put.rest
+
+        back : ChangesMap (forest_of k1) (forest_of k3) space (with_at (map_of (forest_of k1).keys space) page (Some (record { writable = false; page = id.0 })))
+            → ChangesMap (forest_of k0) (forest_of k3) space (with_at (map_of (forest_of k1).keys space) page (Some (record { writable = false; page = id.0 })))
+        back change = record {
+          stays = change.stays;
+          here = change.here;
+          others = record {
+            stay = λ other is apart. change.others.stay other (raised_space other is) apart;
+            maps = λ other is apart. change.others.maps other (raised_space other is) apart ∙ ap (λ (keys : ℕ → Key). map_of keys other) keys_same;
+          };
+        }
+
+        stays_filled : Releasing k2 known (was ∷ []) → NoneEmpty (forest_of k2).keys → NoneEmpty (forest_of k3).keys
+        stays_filled hand filled = release_leaves_none_empty (forest_of k2) (forest_of k3) (outside_trees k2 known) (was ∷ []) [] hand.held (lets.lets known [] hand).1 filled

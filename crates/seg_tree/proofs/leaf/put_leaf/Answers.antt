@@ -1,0 +1,68 @@
+use Rattle.std.proofs.Common.{◌∷◌, [], ap, sym, subst, ◌∙◌}
+use Rattle.std.specs.Option.{is_some}
+use Rattle.kn_base.specs.declared.key.Key.{Key}
+use Rattle.kernel_tables.specs.Kernel.{kernel_of}
+use Rattle.space_bank.specs.Shares.{Outside}
+use Rattle.kernel_forest.specs.Trees.{node_tree, forest_of, TreesGood}
+use Rattle.seg_tree.specs.Leaves.{PutsLeaf}
+use Rattle.seg_tree.proofs.Levels.{some_owner}
+use Rattle.seg_tree.proofs.Mapping.{page_top, space_leaf, node_owned, was_tree, puts_leaf}
+use Rattle.seg_tree.proofs.leaf.put_leaf.Goals as goal
+
+pub own_node-node-requires-clause-top : goal.own_node-node-requires-clause-top
+own_node-node-requires-clause-top g c = page_top c.args.page c.requires.page
+
+pub own_node-node-requires-clause-trees : goal.own_node-node-requires-clause-trees
+own_node-node-requires-clause-trees g c =
+    (c.requires.trees.0, c.args.key ∷ [], c.requires.trees.1, space_leaf (forest_of (kernel_of (g.T.Store.memory c.args.store.now))) [] c.args.key c.args.space.0 c.requires.fits c.requires.space)
+
+pub tree_key-was-requires-clause-owned : goal.tree_key-was-requires-clause-owned
+tree_key-was-requires-clause-owned g c =
+    let old = kernel_of (g.T.Store.memory c.args.store.now) in
+    let mid = kernel_of (g.T.Store.memory c.own_node-node.new.store) in
+    let all = c.requires.trees in
+    let owner = some_owner (node_tree c.tree_owner-owner.result) (ap is_some (sym c.tree_owner-owner.ensures) ∙ c.requires.space.owned) in
+    let to = c.tree_owner-owner.ensures ∙ owner.1 in
+    node_owned old mid all.0 c.args.space.0 c.args.page c.own_node-node.result.0 owner.0 c.args.key c.requires.fits c.requires.page all.1 c.requires.space
+    to (λ object h. c.requires.owners object h ∙ to)
+    (c.own_node-node.ensures.way all.0 (c.args.key ∷ []) owner.0 all.1 (space_leaf (forest_of old) [] c.args.key c.args.space.0 c.requires.fits c.requires.space) owner.1)
+
+pub put_key-requires-clause-owned : goal.put_key-requires-clause-owned
+put_key-requires-clause-owned g c =
+    let old = kernel_of (g.T.Store.memory c.args.store.now) in
+    let mid = kernel_of (g.T.Store.memory c.own_node-node.new.store) in
+    let all = c.requires.trees in
+    let owner = some_owner (node_tree c.tree_owner-owner.result) (ap is_some (sym c.tree_owner-owner.ensures) ∙ c.requires.space.owned) in
+    let to = c.tree_owner-owner.ensures ∙ owner.1 in
+    node_owned old mid all.0 c.args.space.0 c.args.page c.own_node-node.result.0 owner.0 c.args.key c.requires.fits c.requires.page all.1 c.requires.space
+    to (λ object h. c.requires.owners object h ∙ to)
+    (c.own_node-node.ensures.way all.0 (c.args.key ∷ []) owner.0 all.1 (space_leaf (forest_of old) [] c.args.key c.args.space.0 c.requires.fits c.requires.space) owner.1)
+
+pub put_key-requires-clause-of_tree : goal.put_key-requires-clause-of_tree
+put_key-requires-clause-of_tree g c = c.requires.trees.1.in_hand.0
+
+pub put_key-requires-clause-was_of_tree : goal.put_key-requires-clause-was_of_tree
+put_key-requires-clause-was_of_tree g c =
+    let old = kernel_of (g.T.Store.memory c.args.store.now) in
+    let mid = kernel_of (g.T.Store.memory c.own_node-node.new.store) in
+    let all = c.requires.trees in
+    let owner = some_owner (node_tree c.tree_owner-owner.result) (ap is_some (sym c.tree_owner-owner.ensures) ∙ c.requires.space.owned) in
+    let to = c.tree_owner-owner.ensures ∙ owner.1 in
+    was_tree old mid all.0 c.args.space.0 c.args.page c.own_node-node.result.0 owner.0 c.args.key c.requires.fits c.requires.page all.1 c.requires.space
+    to (λ object h. c.requires.owners object h ∙ to)
+    (c.own_node-node.ensures.way all.0 (c.args.key ∷ []) owner.0 all.1 (space_leaf (forest_of old) [] c.args.key c.args.space.0 c.requires.fits c.requires.space) owner.1)
+
+pub returns-clause-put : goal.returns-clause-put
+returns-clause-put g c =
+    let old = kernel_of (g.T.Store.memory c.args.store.now) in
+    let mid = kernel_of (g.T.Store.memory c.own_node-node.new.store) in
+    let new = kernel_of (g.T.Store.memory c.put_key.new.store) in
+    let all = c.requires.trees in
+    let owner = some_owner (node_tree c.tree_owner-owner.result) (ap is_some (sym c.tree_owner-owner.ensures) ∙ c.requires.space.owned) in
+    let to = c.tree_owner-owner.ensures ∙ owner.1 in
+    subst (λ (was : Key). PutsLeaf old new c.args.space.0 c.args.page c.args.key was) (sym c.tree_key-was.ensures)
+    (puts_leaf old mid new c.args.space.0 c.args.page c.own_node-node.result.0 owner.0 c.args.key c.requires.fits c.requires.page c.requires.space
+    to (λ object h. c.requires.owners object h ∙ to) all.0 all.1
+    (λ (outside : Outside) (trees : TreesGood old outside (c.args.key ∷ [])). c.own_node-node.ensures.way outside (c.args.key ∷ []) owner.0 trees
+    (space_leaf (forest_of old) [] c.args.key c.args.space.0 c.requires.fits c.requires.space) owner.1)
+    c.put_key.ensures.put)

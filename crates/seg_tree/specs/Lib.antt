@@ -1,0 +1,5 @@
+-- in reading order
+pub mod Steps
+pub mod Leaves
+pub mod Releases
+pub mod Promises
