@@ -1,0 +1,5 @@
+-- in reading order
+pub mod Sizes
+pub mod Saved
+pub mod Position
+pub mod Runs

@@ -1,0 +1,7 @@
+pub mod Scars
+pub mod RunLaws
+mod HistoryLaws
+mod ClipLaws
+mod ReplayLaws
+mod TapeLaws
+mod DiskLaws

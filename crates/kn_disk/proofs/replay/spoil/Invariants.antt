@@ -1,0 +1,7 @@
+use Rattle.std.proofs.Common.{◌≡◌, take}
+use Rattle.kn_disk.specs.Steps.{spoiled}
+use Rattle.kn_disk.specs.Changes.{steps_of}
+use Rattle.kn_disk.proofs.replay.spoil.Given as goal
+
+abbrev pub invariant-loop-change : goal.invariant-loop-change
+invariant-loop-change l = l.bytes.items ≡ spoiled l.byte l.initial.bytes.items (steps_of l.log (take l.change-index l.changes))

@@ -1,0 +1,4 @@
+mod MoveLaws
+mod SomeLaws
+mod StoreLaws
+mod RoundLaws
