@@ -96,7 +96,7 @@ fn read_checked_header<B: FileBytes>(file: &B) -> Result<FileHeader, ElfFault>
 /// - Short: the table of program headers passes the file's end.
 ///
 /// Then the program headers are taken in order. PT_DYNAMIC and PT_INTERP are NotStatic, and a header that isn't PT_LOAD
-/// or has no bytes in memory is passed over. A load is TooMany where the plan has as many as it may have. It is BadSegment
+/// or has no bytes in memory is passed over. A load is TooMany where the plan has sixteen already. It is BadSegment
 /// where it has more bytes in the file than in memory, passes the end of the file or of user memory, or overlaps an
 /// earlier load. BadSegment is also the answer where no load remains. All else that the headers say is ignored.
 pub fn read<B: FileBytes>(file: &B) -> Result<ElfPlan, ElfFault>

@@ -51,13 +51,13 @@ const LINKED: [u8; 444] = [
 ];
 
 fn plan_of(bytes: &[u8]) -> Result<ElfPlan, ElfFault>
-    requires { length bytes.now ≤ 444 }
+    requires { length bytes.now ≤ 596 }
 {
     read(&SliceBytes(bytes))
 }
 
 fn fault_of(bytes: &[u8]) -> Option<ElfFault>
-    requires { length bytes.now ≤ 444 }
+    requires { length bytes.now ≤ 596 }
 {
     plan_of(bytes).err()
 }
@@ -125,7 +125,7 @@ fn the_kind_of_file_and_the_table_of_headers_are_tested(rt: HostRuntime) {
 
 #[test]
 fn the_program_headers_are_tested_in_order(rt: HostRuntime) {
-    let cases: [(&[(usize, u8)], Option<ElfFault>); 29] = [
+    let cases: [(&[(usize, u8)], Option<ElfFault>); 33] = [
         (&[(52, 2)], Some(ElfFault::NotStatic)),
         (&[(52, 3)], Some(ElfFault::NotStatic)),
         (&[(84, 3)], Some(ElfFault::NotStatic)),
@@ -137,9 +137,16 @@ fn the_program_headers_are_tested_in_order(rt: HostRuntime) {
         (&[(72, 0)], Some(ElfFault::BadSegment)),
         (&[(100, 9)], None),
         (&[(91, 0xFF), (95, 0xFF)], None),
-        // A second load is one too many, whatever else its header says.
-        (&[(104, 1)], Some(ElfFault::TooMany)),
-        (&[(100, 9), (104, 1)], Some(ElfFault::TooMany)),
+        // A second load is tested as the first, and has no address of it.
+        (&[(104, 1)], None),
+        (&[(100, 9), (104, 1)], Some(ElfFault::BadSegment)),
+        (&[(92, 12), (93, 0), (104, 1)], None),
+        (&[(92, 11), (93, 0), (104, 1)], Some(ElfFault::BadSegment)),
+        (&[(92, 0xFF), (93, 0xFF), (94, 0), (104, 1)], None),
+        (
+            &[(92, 0xFF), (93, 0xFF), (94, 0), (104, 2)],
+            Some(ElfFault::BadSegment),
+        ),
         // The first refused header is told.
         (&[(68, 13), (84, 2)], Some(ElfFault::BadSegment)),
         (&[(52, 2), (104, 1)], Some(ElfFault::NotStatic)),
@@ -240,4 +247,37 @@ fn the_break_starts_at_a_page(rt: HostRuntime) {
         };
         assert_eq!(rt; plan.break_start, want);
     }
+}
+
+/// A file of nothing but headers, of which this many are loads: one page apart, of one byte without any in the file.
+fn loads_of(count: u8) -> [u8; 596] {
+    let mut file = [0; 596];
+    file[..52].copy_from_slice(&PROGRAM[..52]);
+    file[44] = 17;
+    for number in 0..17 {
+        let header = 52 + 32 * usize::from(number);
+        file[header] = u8::from(number < count);
+        file[header + 9] = 16 * (number % 16);
+        file[header + 10] = 1 + number / 16;
+        file[header + 20] = 1;
+    }
+    file
+}
+
+#[test]
+fn sixteen_loads_are_taken_and_no_more(rt: HostRuntime) {
+    for (count, want) in [
+        (0, Some(ElfFault::BadSegment)),
+        (1, None),
+        (2, None),
+        (16, None),
+        (17, Some(ElfFault::TooMany)),
+    ] {
+        assert_eq!(rt; fault_of(&loads_of(count)), want, "{count} loads");
+    }
+    let Ok(plan) = plan_of(&loads_of(16)) else {
+        panic!(rt; "refused");
+    };
+    assert_eq!(rt; plan.loads.len(), 16);
+    assert_eq!(rt; plan.break_start, 0x20000);
 }

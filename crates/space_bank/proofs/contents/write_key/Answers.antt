@@ -1,5 +1,6 @@
 use Rattle.std.proofs.Common.{◌+◌, ◌*◌, Some, sym, subst, arith}
 use Rattle.kernel_tables.specs.Kernel.{Kernel, kernel_of}
+use Rattle.space_bank.specs.Changes.{key_written}
 use Rattle.space_bank.specs.Fixed.{FixedNodes}
 use Rattle.space_bank.proofs.FixedLaws.{fixed_nodes-set}
 use Rattle.space_bank.proofs.ChangeLaws.{keys-exchanged}
@@ -16,7 +17,7 @@ returns-clause-shares g c =
 pub returns-clause-fixed : goal.returns-clause-fixed
 returns-clause-fixed g c high fixed =
     let kernel = kernel_of (g.T.Store.memory c.args.store.now) in
-    subst (λ (k : Kernel). FixedNodes k.keys) (sym c.set_key_at.ensures.written)
+    subst (λ (k : Kernel). FixedNodes k.keys) (sym {b = key_written kernel c.args.node.0 c.args.place c.args.key} c.set_key_at.ensures.written)
     (fixed_nodes-set kernel.keys (16 * c.args.node.0 + c.args.place) (Some c.args.key) (omega arith) fixed)
 
 pub returns-clause-blocks : goal.returns-clause-blocks
