@@ -73,6 +73,12 @@ pub fn run<D: Disk, M: Turns>(
     // Each image that a crash now may leave holds the last interval that was saved, or the one after it.
     ensures now { D.tells → (c : List ℕ) → D.image disk.new c → HoldsOne (M.plan machine.old (ram_of store.old).blocks) (D.contents disk.old) at.old.generation result.0 (min intervals (result.0 + 1)) c }
     ensures last { D.tells → OnOk result.1 (raw (D.contents disk.new) ≡ Machine (at.old.generation + intervals) (M.plan machine.old (ram_of store.old).blocks intervals)) }
+
+    // The position counts the intervals that were saved. At Ok disk, store and position agree again.
+    ensures generation { at.new.generation ≡ at.old.generation + result.0 }
+    ensures stores { D.tells → OnOk result.1 (IsStores (ram_of store.new) at.new.generation at.new.entries at.new.moved at.new.synced (D.contents disk.new) (D.image disk.new)) }
+    ensures order { OnOk result.1 (at.new.moved ≤ at.new.entries) }
+    ensures few { OnOk result.1 (at.new.entries ≤ length (ram_of store.new).blocks) }
     ensures all { OnOk result.1 (result.0 ≡ intervals) }
     ensures some { OnErr result.1 (result.0 < intervals) }
     ensures same { OnOk result.1 (D.faults disk.new ≡ D.faults disk.old) }

@@ -6,7 +6,7 @@ ghost use Rattle.obj_store.specs.Ram.{Ram};
 ghost use Rattle.obj_store.specs.Store.{ram_of};
 ghost use Rattle.disk_layout.specs.Saved.{raw, label_in, Machine};
 ghost use Rattle.checkpoint.specs.Sizes.{HasSizes, pages_in};
-ghost use Rattle.checkpoint.specs.Commit.{SavedOr};
+ghost use Rattle.checkpoint.specs.Commit.{marks, SavedOr};
 ghost use Rattle.migrate.specs.Rounds.{IsStores};
 
 use crate::migrating::some;
@@ -23,7 +23,8 @@ use obj_store::RamStore;
 ///
 /// # Errors
 ///
-/// `DiskFault` only where the disk's count of faults rose. The store is then as before.
+/// `DiskFault` only where the disk's count of faults rose. The store is then as before, and the
+/// position has the generation that it had.
 pub fn save<D: Disk>(
     disk: &mut D,
     store: &mut RamStore,
@@ -48,10 +49,13 @@ pub fn save<D: Disk>(
     ensures stores { D.tells → OnOk result (IsStores (ram_of store.new) at.new.generation at.new.entries at.new.moved at.new.synced (D.contents disk.new) (D.image disk.new)) }
     ensures cleaned { OnOk result (ram_of store.new ≡ record (ram_of store.old) { dirty = replicate (length (ram_of store.old).blocks) false }) }
     ensures generation { OnOk result (at.new.generation ≡ at.old.generation + 1) }
+    ensures entries { OnOk result (at.new.entries ≡ marks (ram_of store.old)) }
+    ensures moved { OnOk result (at.new.moved ≡ 0) }
     ensures order { OnOk result (at.new.moved ≤ at.new.entries) }
     ensures few { OnOk result (at.new.entries ≤ length (ram_of store.new).blocks) }
 
     ensures kept { OnErr result (ram_of store.new ≡ ram_of store.old) }
+    ensures unsaved { OnErr result (at.new.generation ≡ at.old.generation) }
     ensures same { OnOk result (D.faults disk.new ≡ D.faults disk.old) }
     ensures counted { D.faults disk.old ≤ D.faults disk.new }
     ensures failed { OnErr result (Rose (D.faults disk.old) (D.faults disk.new)) }

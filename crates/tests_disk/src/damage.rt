@@ -5,7 +5,7 @@ use crate::machines::{
     small_store,
 };
 use crate::untold::{Fails, Untold};
-use checkpoint::{RecoverFault, present};
+use checkpoint::{RecoverFault, present, recover};
 use kn_disk::{Disk, Fill};
 use std::alloc::Global;
 use std::process::Abort;
@@ -140,6 +140,64 @@ fn a_damaged_disk_is_refused_by_its_bytes(rt: HostRuntime) -> Result<(), Fail> {
     Ok(())
 }
 
+// Bytes cut to a length, or with zeros behind them.
+fn of_length(alloc: Global, bytes: &[u8], length: usize) -> Result<Vec<u8>, Fail> {
+    let mut image = bytes.to_vec(alloc)?;
+    image.resize(length, 0)?;
+    Ok(image)
+}
+
+#[test]
+fn a_disk_of_another_length_is_refused(rt: HostRuntime) -> Result<(), Fail> {
+    let bytes = committed(&rt)?;
+    for (length, answer) in [
+        (0, Err(RecoverFault::NoMachine)),
+        (1, Err(RecoverFault::NoMachine)),
+        (4095, Err(RecoverFault::NoMachine)),
+        (4096, Err(RecoverFault::Damaged)),
+        (2_281_471, Err(RecoverFault::Damaged)),
+        (2_281_472, Ok(1)),
+        (2_281_473, Err(RecoverFault::Damaged)),
+        (32_993_280, Err(RecoverFault::Damaged)),
+    ] {
+        let image = of_length(rt.alloc(), &bytes, length)?;
+        assert_eq!(rt;
+            generation_of(rt.alloc(), &image)?,
+            answer,
+            "{length} bytes"
+        );
+    }
+    Ok(())
+}
+
+// Whether a recovery fails where this call of the disk does.
+fn recovery_fails(
+    rt: &(impl Abort + AllocGlobal),
+    bytes: &[u8],
+    number: u32,
+) -> Result<bool, Fail> {
+    let mut disk = Untold::new(rt.alloc(), bytes, 16, Fails::Once(number))?;
+    match recover(rt.alloc(), &mut disk) {
+        Ok(_machine) => Ok(false),
+        Err(fault) => {
+            assert_eq!(rt; fault, RecoverFault::DiskFault, "call {number}");
+            Ok(true)
+        }
+    }
+}
+
+#[test]
+fn a_recovery_of_which_one_call_fails_is_a_fault(rt: HostRuntime) -> Result<(), Fail> {
+    let bytes = committed(&rt)?;
+    for number in 0..1000u32 {
+        if !recovery_fails(&rt, &bytes, number)? {
+            assert!(rt; number > 184, "each block is read");
+            return Ok(());
+        }
+    }
+    Err("a thousand calls are not enough".into())
+}
+
 #[test]
 fn a_formatted_disk_has_its_length_and_gives_its_blocks_back(rt: HostRuntime) -> Result<(), Fail> {
     let mut store = small_store(rt.alloc())?;
@@ -165,6 +223,7 @@ fn written(rt: &(impl Abort + AllocGlobal), first: &[u8], blocks: u32) -> Result
     let mut at = START;
     assert_eq!(rt; save(rt, &mut disk, &mut store, &mut at), Ok(()));
     assert_eq!(rt; at.entries, blocks);
+    assert_eq!(rt; disk.read, 1, "the gate of its area alone");
     Ok(disk.written)
 }
 

@@ -2,6 +2,8 @@
 #![tactic(auto)]
 
 #[cfg(test)]
+mod counting;
+#[cfg(test)]
 mod crashes;
 #[cfg(test)]
 mod damage;
@@ -11,5 +13,7 @@ mod disks;
 mod machines;
 #[cfg(test)]
 mod migration;
+#[cfg(test)]
+mod rounds;
 #[cfg(test)]
 mod untold;

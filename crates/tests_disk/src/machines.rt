@@ -115,8 +115,11 @@ pub(crate) fn formatted(
     disk.image(rt.alloc(), Fill::New)
 }
 
-/// What is recovered of an image.
-fn reopened(alloc: Global, image: &[u8]) -> Result<Result<(RamStore, u64), RecoverFault>, Fail> {
+/// What is recovered of an image: the store and its generation.
+pub(crate) fn reopened(
+    alloc: Global,
+    image: &[u8],
+) -> Result<Result<(RamStore, u64), RecoverFault>, Fail> {
     let mut disk = Untold::new(alloc, image, 16, Fails::Never)?;
     match recover(alloc, &mut disk) {
         Ok((store, at)) => Ok(Ok((store, at.generation))),
@@ -135,7 +138,8 @@ pub(crate) fn generation_of(
     }
 }
 
-fn has_blocks(got: &RamStore, store: &RamStore) -> bool {
+/// Whether two stores have the same blocks.
+pub(crate) fn same_blocks(got: &RamStore, store: &RamStore) -> bool {
     if got.blocks() != store.blocks() {
         return false;
     }
@@ -155,7 +159,7 @@ fn has_blocks(got: &RamStore, store: &RamStore) -> bool {
 pub(crate) fn generations(alloc: Global, image: &[u8]) -> Result<u64, Fail> {
     match reopened(alloc, image)? {
         Ok((store, generation)) if generation < 3 => {
-            if !has_blocks(&store, &machine(alloc, generation)?) {
+            if !same_blocks(&store, &machine(alloc, generation)?) {
                 return Err("other blocks".into());
             }
             Ok(generation + 1)

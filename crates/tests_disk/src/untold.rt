@@ -27,6 +27,8 @@ pub(crate) struct Untold {
     pub calls: u32,
     /// How many bytes were to be written.
     pub written: u64,
+    /// How many bytes were to be read.
+    pub read: u64,
 }
 
 impl Untold {
@@ -44,6 +46,7 @@ impl Untold {
             fails,
             calls: 0,
             written: 0,
+            read: 0,
         })
     }
 
@@ -70,6 +73,14 @@ impl Untold {
         ensures { self.new.faults ≡ self.old.faults }
     {
         self.written = self.written.saturating_add(count as u64);
+        self.count_call()
+    }
+
+    // Counts a read of so many bytes. The result is whether it fails.
+    fn count_read(&mut self, count: usize) -> bool
+        ensures { self.new.faults ≡ self.old.faults }
+    {
+        self.read = self.read.saturating_add(count as u64);
         self.count_call()
     }
 
@@ -116,7 +127,7 @@ impl Disk for Untold {
     }
 
     fn read_at(&mut self, at: u64, into: &mut [u8]) -> Result<(), Failed> {
-        if self.count_call() {
+        if self.count_read(into.len()) {
             return Err(self.failed());
         }
         match self.disk.length() {
