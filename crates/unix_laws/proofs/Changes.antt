@@ -6,7 +6,7 @@ use Rattle.unix_model.specs.declared.calls.Call.{Call}
 use Rattle.unix_model.specs.declared.calls.Call.TheVariants as call
 use Rattle.unix_model.specs.declared.calls.Errno.{Errno}
 use Rattle.unix_model.specs.declared.calls.Errno.TheVariants.{Echild, Eexist, Eisdir, Enoent, Enospc, Enotdir, Enotempty}
-use Rattle.unix_model.specs.Effect.{Line, Waits, Goes, argument_of, replies}
+use Rattle.unix_model.specs.Effect.{Line, Waits, Goes, argument_of, replies, text_of, texts_of}
 use Rattle.unix_model.specs.Elf.{LoadPlan, plan_of}
 use Rattle.unix_model.specs.Enter.{has_flag}
 use Rattle.unix_model.specs.FileCalls.{is_stream, line_left, line_taken, looked_at, reads_from, with_contents, with_descriptors, with_offset, with_pipe, with_resized, with_written, writes_to}
@@ -56,63 +56,64 @@ pub data Renaming (unix : Unix) (from to : Spot) (named : ℕ) : Files → Type 
   anew : to.inode ≡ None → is_full unix.files to.directory ≡ false → has_room (with_link unix to named) ≡ true
       → Renaming unix from to named (moved (with_link unix to named).files from to named)
 
-pub data Changes (unix : Unix) (slot : ℕ) (process : Process) : Unix → Type 0 where
-  settles : (phase : Phase) → IsAnswer phase → Changes unix slot process (with_phase unix slot process phase)
-  exits : (word : ℕ) → Changes unix slot process (with_phase unix slot process (Exiting word))
+-- what a call that was sent does; paths are among the texts that it brings
+pub data Changes (unix : Unix) (slot : ℕ) (process : Process) (sent : SentCall) : Unix → Type 0 where
+  settles : (phase : Phase) → IsAnswer phase → Changes unix slot process sent (with_phase unix slot process phase)
+  exits : (word : ℕ) → Changes unix slot process sent (with_phase unix slot process (Exiting word))
   forks : (place : ℕ) → free_slot unix.processes ≡ Some place → nat_le pid_end unix.next_pid ≡ false → has_room (forked unix place process) ≡ true
-      → Changes unix slot process (with_phase (forked unix place process) slot process (answered unix.next_pid))
-  loads : (file : List ℕ) (plan : LoadPlan) (strings : List (List ℕ)) → program (plan_of file) ≡ Ok plan → has_room (with_loaded unix slot process file plan strings) ≡ true
-      → Changes unix slot process (with_loaded unix slot process file plan strings)
+      → Changes unix slot process sent (with_phase (forked unix place process) slot process (answered unix.next_pid))
+  loads : (inode : ℕ) (file : List ℕ) (plan : LoadPlan) → file_bytes (at unix.files.inodes inode) ≡ Some file → program (plan_of file) ≡ Ok plan → has_room (with_loaded unix slot process file plan (drop 1 (texts_of sent))) ≡ true
+      → Changes unix slot process sent (with_loaded unix slot process file plan (drop 1 (texts_of sent)))
   reaps : (wanted : ℕ) (ended : EndedChild) (phase : Phase) → least_ended unix.processes process.pid wanted slot_count ≡ Some ended → IsAnswer phase
-      → Changes unix slot process (with_phase (without_process unix ended.slot) slot process phase)
-  kills : (pid target signal : ℕ) → slot_of unix.processes pid ≡ Some target → target == slot ≡ false
-      → Changes unix slot process (with_phase (with_killed unix target signal (at unix.processes target)) slot process (answered 0))
+      → Changes unix slot process sent (with_phase (without_process unix ended.slot) slot process phase)
+  kills : (pid target signal : ℕ) → signal ≡ argument_of sent 1 → slot_of unix.processes pid ≡ Some target → target == slot ≡ false
+      → Changes unix slot process sent (with_phase (with_killed unix target signal (at unix.processes target)) slot process (answered 0))
   dups : (number lowest : ℕ) (file : Opened) → opened unix process number ≡ Some file → lowest_closed process ≡ Some lowest
-      → Changes unix slot process (with_phase unix slot (with_descriptor process lowest file.number) (answered lowest))
+      → Changes unix slot process sent (with_phase unix slot (with_descriptor process lowest file.number) (answered lowest))
   closes : (number : ℕ)
-      → Changes unix slot process (with_phase (with_descriptor_closed unix slot process number (descriptor process number)) slot (without_descriptor process number) (answered 0))
+      → Changes unix slot process sent (with_phase (with_descriptor_closed unix slot process number (descriptor process number)) slot (without_descriptor process number) (answered 0))
   dups_to : (number to : ℕ) (file : Opened) → opened unix process number ≡ Some file → number == to ≡ false
-      → Changes unix slot process (with_phase (with_descriptor_closed unix slot process to (descriptor process to)) slot (with_descriptor process to file.number) (answered to))
+      → Changes unix slot process sent (with_phase (with_descriptor_closed unix slot process to (descriptor process to)) slot (with_descriptor process to file.number) (answered to))
   pipes : (first second reader writer number : ℕ) (phase : Phase) → lowest_closed process ≡ Some first → next_closed process first ≡ Some second
       → free_description unix.files.descriptions ≡ Some reader → next_description unix.files.descriptions reader ≡ Some writer
       → free_inode unix.files.inodes ≡ Some number → has_room (with_pipe unix number reader writer) ≡ true → IsAnswer phase
-      → Changes unix slot process (with_phase (with_pipe unix number reader writer) slot (with_descriptors process first reader second writer) phase)
+      → Changes unix slot process sent (with_phase (with_pipe unix number reader writer) slot (with_descriptors process first reader second writer) phase)
   reads_file : (number count : ℕ) (file : Opened) (bytes : List ℕ) (phase : Phase) → opened unix process number ≡ Some file → opened_inode unix file ≡ Some (File bytes) → IsAnswer phase
-      → Changes unix slot process (with_phase (with_files unix (with_offset unix.files file (file.description.offset + length (take count (drop file.description.offset bytes))))) slot process phase)
+      → Changes unix slot process sent (with_phase (with_files unix (with_offset unix.files file (file.description.offset + length (take count (drop file.description.offset bytes))))) slot process phase)
   seeks : (number place : ℕ) (file : Opened) → opened unix process number ≡ Some file → is_stream (opened_inode unix file) ≡ false
       → (is_directory (opened_inode unix file) && not (place % place_bytes == 0)) ≡ false → nat_le offset_end place ≡ false
-      → Changes unix slot process (with_phase (with_files unix (with_offset unix.files file place)) slot process (answered place))
+      → Changes unix slot process sent (with_phase (with_files unix (with_offset unix.files file place)) slot process (answered place))
   lists : (number count : ℕ) (file : Opened) (phase : Phase) → opened unix process number ≡ Some file → is_directory (opened_inode unix file) ≡ true → IsAnswer phase
-      → Changes unix slot process (with_phase (with_files unix (with_offset unix.files file (file.description.offset + place_bytes * looked_at count (drop (file.description.offset / place_bytes) (places_of (opened_inode unix file)))))) slot process phase)
+      → Changes unix slot process sent (with_phase (with_files unix (with_offset unix.files file (file.description.offset + place_bytes * looked_at count (drop (file.description.offset / place_bytes) (places_of (opened_inode unix file)))))) slot process phase)
   takes_pipe : (number count : ℕ) (file : Opened) (bytes : List ℕ) (phase : Phase) → opened unix process number ≡ Some file → opened_inode unix file ≡ Some (Pipe bytes) → IsAnswer phase
-      → Changes unix slot process (with_phase (with_files unix (with_contents unix.files file (Pipe (drop count bytes)))) slot process phase)
-  puts_pipe : (number : ℕ) (file : Opened) (bytes written : List ℕ) → opened unix process number ≡ Some file → opened_inode unix file ≡ Some (Pipe bytes)
+      → Changes unix slot process sent (with_phase (with_files unix (with_contents unix.files file (Pipe (drop count bytes)))) slot process phase)
+  puts_pipe : (number : ℕ) (file : Opened) (bytes written : List ℕ) → written ≡ sent.bytes → opened unix process number ≡ Some file → opened_inode unix file ≡ Some (Pipe bytes)
       → nat_lt pipe_bytes (length bytes + length written) ≡ false
-      → Changes unix slot process (with_phase (with_files unix (with_contents unix.files file (Pipe (bytes ++ written)))) slot process (answered (length written)))
-  writes_file : (number place : ℕ) (file : Opened) (bytes written : List ℕ) → opened unix process number ≡ Some file → opened_inode unix file ≡ Some (File bytes)
+      → Changes unix slot process sent (with_phase (with_files unix (with_contents unix.files file (Pipe (bytes ++ written)))) slot process (answered (length written)))
+  writes_file : (number place : ℕ) (file : Opened) (bytes written : List ℕ) → written ≡ sent.bytes → opened unix process number ≡ Some file → opened_inode unix file ≡ Some (File bytes)
       → nat_le most_file_bytes place ≡ false → has_room (with_written unix file bytes place (take (most_file_bytes - place) written)) ≡ true
-      → Changes unix slot process (with_phase (with_written unix file bytes place (take (most_file_bytes - place) written)) slot process (answered (length (take (most_file_bytes - place) written))))
+      → Changes unix slot process sent (with_phase (with_written unix file bytes place (take (most_file_bytes - place) written)) slot process (answered (length (take (most_file_bytes - place) written))))
   resizes : (number size : ℕ) (file : Opened) (bytes : List ℕ) → opened unix process number ≡ Some file → file_bytes (opened_inode unix file) ≡ Some bytes
       → nat_lt most_file_bytes size ≡ false → has_room (with_resized unix file bytes size) ≡ true
-      → Changes unix slot process (with_phase (with_resized unix file bytes size) slot process (answered 0))
-  opens : (path : List ℕ) (flags number lowest : ℕ) (spot : Spot) (new : ToOpen) → lowest_closed process ≡ Some lowest → free_description unix.files.descriptions ≡ Some number
-      → walked unix.files path ≡ Ok spot → Opening unix flags spot new
-      → Changes unix slot process (with_phase (with_opened new.state number (opening flags new.inode)) slot (with_descriptor process lowest number) (answered lowest))
-  makes_directory : (path : List ℕ) (spot : Spot) (number : ℕ) → walked unix.files path ≡ Ok spot → is_some spot.inode ≡ false → Making unix spot (Directory spot.directory []) number
-      → Changes unix slot process (with_phase (with_made unix spot number (Directory spot.directory [])) slot process (answered 0))
-  removes_directory : (path : List ℕ) (spot : Spot) (gone : ℕ) → walked unix.files path ≡ Ok spot → is_root spot ≡ false → is_dots spot ≡ false → spot.inode ≡ Some gone
+      → Changes unix slot process sent (with_phase (with_resized unix file bytes size) slot process (answered 0))
+  opens : (path flags number lowest : ℕ) (spot : Spot) (new : ToOpen) → lowest_closed process ≡ Some lowest → free_description unix.files.descriptions ≡ Some number
+      → walked unix.files (text_of sent path) ≡ Ok spot → Opening unix flags spot new
+      → Changes unix slot process sent (with_phase (with_opened new.state number (opening flags new.inode)) slot (with_descriptor process lowest number) (answered lowest))
+  makes_directory : (path : ℕ) (spot : Spot) (number : ℕ) → walked unix.files (text_of sent path) ≡ Ok spot → is_some spot.inode ≡ false → Making unix spot (Directory spot.directory []) number
+      → Changes unix slot process sent (with_phase (with_made unix spot number (Directory spot.directory [])) slot process (answered 0))
+  removes_directory : (path : ℕ) (spot : Spot) (gone : ℕ) → walked unix.files (text_of sent path) ≡ Ok spot → is_root spot ≡ false → is_dots spot ≡ false → spot.inode ≡ Some gone
       → is_directory (at unix.files.inodes gone) ≡ true → has_names (at unix.files.inodes gone) ≡ false
-      → Changes unix slot process (with_phase (with_files unix (removed unix.files spot gone)) slot process (answered 0))
-  unlinks : (path : List ℕ) (spot : Spot) (gone : ℕ) → walked unix.files path ≡ Ok spot → spot.inode ≡ Some gone → is_directory (at unix.files.inodes gone) ≡ false
-      → Changes unix slot process (with_phase (with_files unix (removed unix.files spot gone)) slot process (answered 0))
-  links : (old new : List ℕ) (from to : Spot) (linked : ℕ) → walked unix.files old ≡ Ok from → from.inode ≡ Some linked → is_directory (at unix.files.inodes linked) ≡ false
-      → walked unix.files new ≡ Ok to → is_some to.inode ≡ false → is_full unix.files to.directory ≡ false → has_room (with_link unix to linked) ≡ true
-      → Changes unix slot process (with_phase (with_link unix to linked) slot process (answered 0))
-  renames : (old new : List ℕ) (from to : Spot) (named : ℕ) (files : Files) → walked unix.files old ≡ Ok from → is_root from ≡ false → is_dots from ≡ false → from.inode ≡ Some named
-      → walked unix.files new ≡ Ok to → is_root to ≡ false → is_dots to ≡ false → is_same named to.inode ≡ false
+      → Changes unix slot process sent (with_phase (with_files unix (removed unix.files spot gone)) slot process (answered 0))
+  unlinks : (path : ℕ) (spot : Spot) (gone : ℕ) → walked unix.files (text_of sent path) ≡ Ok spot → spot.inode ≡ Some gone → is_directory (at unix.files.inodes gone) ≡ false
+      → Changes unix slot process sent (with_phase (with_files unix (removed unix.files spot gone)) slot process (answered 0))
+  links : (old new : ℕ) (from to : Spot) (linked : ℕ) → walked unix.files (text_of sent old) ≡ Ok from → from.inode ≡ Some linked → is_directory (at unix.files.inodes linked) ≡ false
+      → walked unix.files (text_of sent new) ≡ Ok to → is_some to.inode ≡ false → is_full unix.files to.directory ≡ false → has_room (with_link unix to linked) ≡ true
+      → Changes unix slot process sent (with_phase (with_link unix to linked) slot process (answered 0))
+  renames : (old new : ℕ) (from to : Spot) (named : ℕ) (files : Files) → walked unix.files (text_of sent old) ≡ Ok from → is_root from ≡ false → is_dots from ≡ false → from.inode ≡ Some named
+      → walked unix.files (text_of sent new) ≡ Ok to → is_root to ≡ false → is_dots to ≡ false → is_same named to.inode ≡ false
       → (is_directory (at unix.files.inodes named) && is_within unix.files.inodes named inode_count to.directory) ≡ false
       → Renaming unix from to named files
-      → Changes unix slot process (with_phase (with_files unix files) slot process (answered 0))
+      → Changes unix slot process sent (with_phase (with_files unix files) slot process (answered 0))
 
 making : (unix : Unix) (spot : Spot) (new : Inode) → Tells (Making unix spot new) (made unix spot new)
 making unix spot new =
@@ -157,9 +158,9 @@ line-parts (suc n) (byte ∷ input) =
       | inr goes ↦ rw goes (ap (λ rest. byte ∷ rest) (line-parts n input))
     ]
 
-module _ (unix : Unix) (slot : ℕ) (process : Process) (input : List ℕ) where
+module _ (unix : Unix) (slot : ℕ) (process : Process) (input : List ℕ) (sent : SentCall) where
   abbrev Q : Line → Type 0
-  Q line = Gives (Changes unix slot process) input line
+  Q line = Gives (Changes unix slot process sent) input line
 
   refused : (errno : Errno) → Q (Err errno)
   refused errno = tt
@@ -193,19 +194,19 @@ module _ (unix : Unix) (slot : ℕ) (process : Process) (input : List ℕ) where
   reads-change number address count file (Some (Directory parent places)) there is = tt
   reads-change number address count file None there is = tt
 
-  writes-change : (number : ℕ) (file : Opened) (written : List ℕ) (found : Option Inode) → opened unix process number ≡ Some file → opened_inode unix file ≡ found
+  writes-change : (number : ℕ) (file : Opened) (written : List ℕ) (found : Option Inode) → written ≡ sent.bytes → opened unix process number ≡ Some file → opened_inode unix file ≡ found
       → Q (writes_to unix slot process file written found)
-  writes-change number file written (Some (File bytes)) there is = search (ask, bar, writes_file, tt) depth 14
-  writes-change number file written (Some (Pipe bytes)) there is = search (ask, bar, choose, puts_pipe, tt) depth 14
-  writes-change number file written (Some Console) there is = settles _ tt
-  writes-change number file written (Some (Directory parent places)) there is = tt
-  writes-change number file written None there is = tt
+  writes-change number file written (Some (File bytes)) given_so there is = search (ask, bar, writes_file, tt) depth 14
+  writes-change number file written (Some (Pipe bytes)) given_so there is = search (ask, bar, choose, puts_pipe, tt) depth 14
+  writes-change number file written (Some Console) given_so there is = settles _ tt
+  writes-change number file written (Some (Directory parent places)) given_so there is = tt
+  writes-change number file written None given_so there is = tt
 
-  kill-change : (pid signal target : ℕ) → slot_of unix.processes pid ≡ Some target
+  kill-change : (pid signal target : ℕ) → signal ≡ argument_of sent 1 → slot_of unix.processes pid ≡ Some target
       → Q (if target == slot then Ok (Goes (with_phase unix slot process (Exiting signal))) else replies (with_killed unix target signal (at unix.processes target)) slot process 0)
-  kill-change pid signal target there =
+  kill-change pid signal target given_so there =
       choose (target == slot) (Ok (Goes (with_phase unix slot process (Exiting signal)))) (replies (with_killed unix target signal (at unix.processes target)) slot process 0)
-      (λ e. exits signal) (λ e. kills pid target signal there e)
+      (λ e. exits signal) (λ e. kills pid target signal given_so there e)
 
   waitpid-change : (pid address options : ℕ) → Q (waitpid_line unix slot process pid address options)
   waitpid-change pid address options =
@@ -213,29 +214,29 @@ module _ (unix : Unix) (slot : ℕ) (process : Process) (input : List ℕ) where
       (λ e. waits-change pid address options (least_ended unix.processes process.pid pid slot_count) refl)
 
   -- each line, by its tests
-  pub line-changes : (sent : SentCall) (wanted : Call) → Q (call_line unix slot process input sent wanted)
-  line-changes sent call.Exit = exits _
-  line-changes sent call.Fork = search (step, need, ask, bar, choose, forks) depth 14
-  line-changes sent call.Exec = search (step, need, ask, loads) depth 20
-  line-changes sent call.Wait = waitpid-change (2 ^ 32 - 1) (argument_of sent 0) 0
-  line-changes sent call.Waitpid = waitpid-change (argument_of sent 0) (argument_of sent 1) (argument_of sent 2)
-  line-changes sent call.Getpid = tt
-  line-changes sent call.Getppid = tt
-  line-changes sent call.Brk = tt
-  line-changes sent call.Open = search (step, need, opens, opens-found, refl) depth 20
-  line-changes sent call.Close = closes _
-  line-changes sent call.Read = search (need, choose, settles, reads-change, refl, tt) depth 20
-  line-changes sent call.Write = search (need, choose, settles, writes-change, refl, tt) depth 20
-  line-changes sent call.Lseek = search (need, bar, seeks) depth 20
-  line-changes sent call.Dup = search (need, dups) depth 14
-  line-changes sent call.Dup2 = search (need, choose, settles, dups_to, tt) depth 20
-  line-changes sent call.Pipe = search (need, ask, pipes, answer-with) depth 20
-  line-changes sent call.Mkdir = search (step, bar, makes_directory, making-of) depth 20
-  line-changes sent call.Rmdir = search (step, bar, need, ask, removes_directory) depth 20
-  line-changes sent call.Unlink = search (step, need, bar, unlinks) depth 20
-  line-changes sent call.Link = search (step, need, bar, ask, links) depth 20
-  line-changes sent call.Rename = search (step, need, bar, choose, settles, renames, renames-found, refl, tt) depth 20
-  line-changes sent call.Fstat = search (need, settles, answer-with) depth 20
-  line-changes sent call.Getdents = search (need, ask, lists, answer-with) depth 20
-  line-changes sent call.Ftruncate = search (need, bar, ask, resizes) depth 20
-  line-changes sent call.Kill = search (need, kill-change) depth 20
+  pub line-changes : (wanted : Call) → Q (call_line unix slot process input sent wanted)
+  line-changes call.Exit = exits _
+  line-changes call.Fork = search (step, need, ask, bar, choose, forks) depth 14
+  line-changes call.Exec = search (step, need, ask, loads) depth 20
+  line-changes call.Wait = waitpid-change (2 ^ 32 - 1) (argument_of sent 0) 0
+  line-changes call.Waitpid = waitpid-change (argument_of sent 0) (argument_of sent 1) (argument_of sent 2)
+  line-changes call.Getpid = tt
+  line-changes call.Getppid = tt
+  line-changes call.Brk = tt
+  line-changes call.Open = search (step, need, opens, opens-found, refl) depth 20
+  line-changes call.Close = closes _
+  line-changes call.Read = search (need, choose, settles, reads-change, refl, tt) depth 20
+  line-changes call.Write = search (need, choose, settles, writes-change, refl, tt) depth 20
+  line-changes call.Lseek = search (need, bar, seeks) depth 20
+  line-changes call.Dup = search (need, dups) depth 14
+  line-changes call.Dup2 = search (need, choose, settles, dups_to, tt) depth 20
+  line-changes call.Pipe = search (need, ask, pipes, answer-with) depth 20
+  line-changes call.Mkdir = search (step, bar, makes_directory, making-of) depth 20
+  line-changes call.Rmdir = search (step, bar, need, ask, removes_directory) depth 20
+  line-changes call.Unlink = search (step, need, bar, unlinks) depth 20
+  line-changes call.Link = search (step, need, bar, ask, links) depth 20
+  line-changes call.Rename = search (step, need, bar, choose, settles, renames, renames-found, refl, tt) depth 20
+  line-changes call.Fstat = search (need, settles, answer-with) depth 20
+  line-changes call.Getdents = search (need, ask, lists, answer-with) depth 20
+  line-changes call.Ftruncate = search (need, bar, ask, resizes) depth 20
+  line-changes call.Kill = search (need, kill-change, refl) depth 20

@@ -9,7 +9,7 @@ use Rattle.unix_model.specs.Elf.{LoadPlan}
 use Rattle.unix_model.specs.Execution as exec
 use Rattle.unix_model.specs.FileCalls.{with_descriptors}
 use Rattle.unix_model.specs.Limits.{descriptor_count, slot_count}
-use Rattle.unix_model.specs.Process.{Process, Phase, Run, Asked, Sent, Done, Exiting, Zombie, answered, descriptor, in_phase, with_descriptor, without_descriptor, zombie}
+use Rattle.unix_model.specs.Process.{Process, SentCall, Phase, Run, Asked, Sent, Done, Exiting, Zombie, answered, descriptor, in_phase, with_descriptor, without_descriptor, zombie}
 use Rattle.unix_model.specs.ProcessCalls.{child, with_program}
 use Rattle.unix_model.specs.Rules.{IsPhase}
 use Rattle.unix_model.specs.State.{Unix, adopted, phase_word, with_descriptor_closed, with_process}
@@ -67,7 +67,7 @@ whole-adopted ended (Some process) whole =
       ended = λ word e. adopted-descriptors ended process ∙ whole.ended word (ap phase_word (sym (adopted-phase ended process)) ∙ e);
     }
 
-answer-lives : (phase : Phase) → IsAnswer phase → phase_word phase ≡ None
+pub answer-lives : (phase : Phase) → IsAnswer phase → phase_word phase ≡ None
 answer-lives Run answer = refl
 answer-lives Asked answer = refl
 answer-lives (Sent sent) answer = refl
@@ -81,19 +81,19 @@ after-lives outcome.Call = refl
 after-lives outcome.Break = refl
 after-lives (outcome.Fault cause) = refl
 
-ran-lives : (process : Process) → phase_word (ran process).phase ≡ None
+pub ran-lives : (process : Process) → phase_word (ran process).phase ≡ None
 unfolding ran
 ran-lives process = after-lives (exec.executed process.registers process.memory).outcome
 
-returned-lives : (process : Process) (value address : ℕ) (bytes : List ℕ) → phase_word (returned process value address bytes).phase ≡ None
+pub returned-lives : (process : Process) (value address : ℕ) (bytes : List ℕ) → phase_word (returned process value address bytes).phase ≡ None
 unfolding returned
 returned-lives process value address bytes = refl
 
-program-lives : (process : Process) (file : List ℕ) (plan : LoadPlan) (strings : List (List ℕ)) → phase_word (with_program process file plan strings).phase ≡ None
+pub program-lives : (process : Process) (file : List ℕ) (plan : LoadPlan) (strings : List (List ℕ)) → phase_word (with_program process file plan strings).phase ≡ None
 unfolding with_program
 program-lives process file plan strings = refl
 
-entered-lives : (unix : Unix) (slot : ℕ) (process after : Process) → Enters unix slot process after → phase_word after.phase ≡ None
+pub entered-lives : (unix : Unix) (slot : ℕ) (process after : Process) → Enters unix slot process after → phase_word after.phase ≡ None
 entered-lives unix slot process after (answers phase answer) = answer-lives phase answer
 entered-lives unix slot process after (sends sent tested) = refl
 entered-lives unix slot process after (breaks address above below room) = refl
@@ -107,7 +107,7 @@ module _ (unix : Unix) (mover : ℕ) (slots : HaveDescriptors unix.processes) wh
   other-whole slot found stays = was-whole slot
   other-whole slot found (gone mine ended there is at_slot) = tt
   other-whole slot found (born mine there free below) = lives (child unix.next_pid mine) (slots.each mover mine there) refl
-  other-whole slot found (killed process signal was goes) = lives (in_phase process (Exiting signal)) (slots.each slot process was) refl
+  other-whole slot found (killed process signal was goes by) = lives (in_phase process (Exiting signal)) (slots.each slot process was) refl
   other-whole slot found (adopts mine there) = whole-adopted mine.pid (at unix.processes slot) (was-whole slot)
 
   -- its own
@@ -124,13 +124,13 @@ module _ (unix : Unix) (mover : ℕ) (slots : HaveDescriptors unix.processes) wh
     set : (number : ℕ) (d : Option ℕ) → length (slice_set mine.descriptors number d) ≡ descriptor_count
     set number d = length-set mine.descriptors number d ∙ size
 
-    change-whole : (state : Unix) → Changes unix mover mine state → WholeIf (at state.processes mover)
+    change-whole : {sent : SentCall} (state : Unix) → Changes unix mover mine sent state → WholeIf (at state.processes mover)
     change-whole state (settles phase answer) = put-phase unix.processes mine phase size (answer-lives phase answer)
     change-whole state (exits word) = put-phase unix.processes mine (Exiting word) size refl
     change-whole state (forks place free pid room) = put-phase _ mine (answered unix.next_pid) size refl
-    change-whole state (loads file plan strings planned room) = put unix.processes (with_program mine file plan strings) (lives (with_program mine file plan strings) (ap length (program-descriptors mine file plan strings) ∙ size) (program-lives mine file plan strings))
+    change-whole state (loads inode file plan held planned room) = put unix.processes (with_program mine file plan _) (lives (with_program mine file plan _) (ap length (program-descriptors mine file plan _) ∙ size) (program-lives mine file plan _))
     change-whole state (reaps wanted ended phase least answer) = put-phase _ mine phase size (answer-lives phase answer)
-    change-whole state (kills pid target signal is differ) = put-phase _ mine (answered 0) size refl
+    change-whole state (kills pid target signal given_so is differ) = put-phase _ mine (answered 0) size refl
     change-whole state (dups number lowest file held low) = put-phase unix.processes (with_descriptor mine lowest file.number) (answered lowest) (set lowest (Some file.number)) refl
     change-whole state (closes number) = put-phase _ (without_descriptor mine number) (answered 0) (set number None) refl
     change-whole state (dups_to number to file held differ) = put-phase _ (with_descriptor mine to file.number) (answered to) (set to (Some file.number)) refl
@@ -140,8 +140,8 @@ module _ (unix : Unix) (mover : ℕ) (slots : HaveDescriptors unix.processes) wh
     change-whole state (seeks number place file held stream aligned below) = put-phase _ mine (answered place) size refl
     change-whole state (lists number count file phase held directory answer) = put-phase _ mine phase size (answer-lives phase answer)
     change-whole state (takes_pipe number count file bytes phase held is answer) = put-phase _ mine phase size (answer-lives phase answer)
-    change-whole state (puts_pipe number file bytes written held is few) = put-phase _ mine (answered _) size refl
-    change-whole state (writes_file number place file bytes written held is below room) = put-phase _ mine (answered _) size refl
+    change-whole state (puts_pipe number file bytes written given_so held is few) = put-phase _ mine (answered _) size refl
+    change-whole state (writes_file number place file bytes written given_so held is below room) = put-phase _ mine (answered _) size refl
     change-whole state (resizes number bytes_now file bytes held is few room) = put-phase _ mine (answered 0) size refl
     change-whole state (opens path flags number lowest spot new low free walk opening_so) = put-phase _ (with_descriptor mine lowest number) (answered lowest) (set lowest (Some number)) refl
     change-whole state (makes_directory path spot number walk free making_so) = put-phase _ mine (answered 0) size refl
@@ -177,7 +177,7 @@ other-end : (unix : Unix) (mover slot : ℕ) (found : Option Process) → HaveDe
 other-end unix mover slot found slots past stays = slots.end slot past
 other-end unix mover slot found slots past (gone mine ended there is at_slot) = refl
 other-end unix mover slot found slots past (born mine there free below) = absurd (omega (arith, past, below))
-other-end unix mover slot found slots past (killed process signal was goes) = some-differ process (sym (slots.end slot past) ∙ was)
+other-end unix mover slot found slots past (killed process signal was goes by) = some-differ process (sym (slots.end slot past) ∙ was)
 other-end unix mover slot found slots past (adopts mine there) = ap (option_map (adopted mine.pid)) (slots.end slot past)
 
 own-end : (unix : Unix) (mover : ℕ) (state : Unix) → HaveDescriptors unix.processes → slot_count ≤ mover → TurnChanges unix mover state → at state.processes mover ≡ None

@@ -5,7 +5,7 @@ use Rattle.unix_model.specs.declared.calls.Turned.TheVariants.{Worked}
 use Rattle.unix_model.specs.Calls.{Calls}
 use Rattle.unix_model.specs.Effect.{Line, Waits, Goes, Takes, Puts, settled}
 use Rattle.unix_model.specs.Enter.{or_refused}
-use Rattle.unix_model.specs.Process.{Process, Phase, Run, Asked, Sent, Done, Exiting, Zombie}
+use Rattle.unix_model.specs.Process.{Process, SentCall, Phase, Run, Asked, Sent, Done, Exiting, Zombie}
 use Rattle.unix_model.specs.State.{Unix, with_process}
 use Rattle.unix_model.specs.Tables.{at}
 use Rattle.unix_model.specs.TurnRecord.{Turn, worked_turn}
@@ -63,19 +63,19 @@ refusal_changes calls unix slot process input errno there = (
   λ sent is refused. turned-in calls unix slot process input (Sent sent) there is ∙ ap (λ line. and_ticked (settled unix slot process input line)) refused,
 )
 
-settled-parts : (unix : Unix) (slot : ℕ) (process : Process) (input : List ℕ) (line : Line) → Gives (Changes unix slot process) input line
+settled-parts : (unix : Unix) (slot : ℕ) (process : Process) (sent : SentCall) (input : List ℕ) (line : Line) → Gives (Changes unix slot process sent) input line
     → (settled unix slot process input line).taken ++ (settled unix slot process input line).left ≡ input
-settled-parts unix slot process input (Err errno) gives = refl
-settled-parts unix slot process input (Ok Waits) gives = refl
-settled-parts unix slot process input (Ok (Goes state)) gives = refl
-settled-parts unix slot process input (Ok (Takes state taken left)) gives = gives.1
-settled-parts unix slot process input (Ok (Puts state put)) gives = refl
+settled-parts unix slot process sent input (Err errno) gives = refl
+settled-parts unix slot process sent input (Ok Waits) gives = refl
+settled-parts unix slot process sent input (Ok (Goes state)) gives = refl
+settled-parts unix slot process sent input (Ok (Takes state taken left)) gives = gives.1
+settled-parts unix slot process sent input (Ok (Puts state put)) gives = refl
 
 in-parts : (calls : Calls) (unix : Unix) (slot : ℕ) (process : Process) (input : List ℕ) (phase : Phase)
     → (turned_in calls unix slot process input phase).taken ++ (turned_in calls unix slot process input phase).left ≡ input
 in-parts calls unix slot process input Run = refl
 in-parts calls unix slot process input Asked = refl
-in-parts calls unix slot process input (Sent sent) = settled-parts unix slot process input (call_line unix slot process input sent sent.call) (line-changes unix slot process input sent sent.call)
+in-parts calls unix slot process input (Sent sent) = settled-parts unix slot process sent input (call_line unix slot process input sent sent.call) (line-changes unix slot process input sent sent.call)
 in-parts calls unix slot process input (Done value address bytes) = refl
 in-parts calls unix slot process input (Exiting word) = refl
 in-parts calls unix slot process input (Zombie word) = refl

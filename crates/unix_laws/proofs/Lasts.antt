@@ -13,7 +13,7 @@ use Rattle.unix_model.specs.Files.{next_description, Files, Inode, File, Directo
 use Rattle.unix_model.specs.Limits.{most_file_bytes, description_count, slot_count}
 use Rattle.unix_model.specs.NameCalls.{ToOpen, moved, opening, removed, with_link, with_made, with_opened, with_parent, with_truncated}
 use Rattle.unix_model.specs.Paths.{Spot}
-use Rattle.unix_model.specs.Process.{Process, Exiting, answered, descriptor, in_phase, with_descriptor, without_descriptor, zombie}
+use Rattle.unix_model.specs.Process.{Process, SentCall, Exiting, answered, descriptor, in_phase, with_descriptor, without_descriptor, zombie}
 use Rattle.unix_model.specs.ProcessCalls.{EndedChild, child, ended_child, ended_in, forked, is_ending, is_waited, least_ended, lesser_pid, with_killed, with_program}
 use Rattle.unix_model.specs.State.{Unix, Opened, adopted, free_slot, has_descriptor, names_description, opened, phase_word, process_names, with_description_released, with_descriptor_closed, with_files, with_phase, with_process, without_process}
 use Rattle.unix_model.specs.Tables.{at, with_at}
@@ -300,14 +300,14 @@ module _ (unix : Unix) (mover slot : ℕ) (process : Process) (slots : HaveDescr
       dropped-descriptions (moved placed from to named) given ∙ moved-descriptions placed from to named
   renaming-descriptions from to named files (anew is place room) = moved-descriptions (with_link unix to named).files from to named
 
-  change-lasts : (mine : Process) (goes : phase_word process.phase ≡ None) (state : Unix) → Changes unix mover mine state → Lasts unix state slot process
+  change-lasts : {sent : SentCall} (mine : Process) (goes : phase_word process.phase ≡ None) (state : Unix) → Changes unix mover mine sent state → Lasts unix state slot process
   change-lasts mine goes state (settles phase answer) = lasts-past unix (in_phase mine phase) there (kept-same unix refl)
   change-lasts mine goes state (exits word) = lasts-past unix (in_phase mine (Exiting word)) there (kept-same unix refl)
   change-lasts mine goes state (forks place free pid room) = lasts-past (forked unix place mine) (in_phase mine (answered unix.next_pid)) (forked-there place mine free) (kept-same (forked unix place mine) refl)
-  change-lasts mine goes state (loads file plan strings planned room) = lasts-past unix (with_program mine file plan strings) there (kept-same unix refl)
+  change-lasts mine goes state (loads inode file plan held planned room) = lasts-past unix (with_program mine file plan _) there (kept-same unix refl)
   change-lasts mine goes state (reaps wanted ended phase least answer) =
       lasts-past (without_process unix ended.slot) (in_phase mine phase) (reaped-there mine.pid wanted ended goes least) (kept-same (without_process unix ended.slot) refl)
-  change-lasts mine goes state (kills pid target signal is differ) = killed-lasts target signal (in_phase mine (answered 0)) (at unix.processes target) refl
+  change-lasts mine goes state (kills pid target signal given_so is differ) = killed-lasts target signal (in_phase mine (answered 0)) (at unix.processes target) refl
   change-lasts mine goes state (dups number lowest file held low) = lasts-past unix (in_phase (with_descriptor mine lowest file.number) (answered lowest)) there (kept-same unix refl)
   change-lasts mine goes state (closes number) =
       lasts-past (with_descriptor_closed unix mover mine number (descriptor mine number)) (in_phase (without_descriptor mine number) (answered 0)) (closed-there mine number (descriptor mine number)) (closed-kept mine number (descriptor mine number))
@@ -319,8 +319,8 @@ module _ (unix : Unix) (mover slot : ℕ) (process : Process) (slots : HaveDescr
   change-lasts mine goes state (seeks number place file held stream aligned below) = lasts-files (with_offset unix.files file place) (in_phase mine (answered place)) (offset-keeps mine number place file held)
   change-lasts mine goes state (lists number count file phase held directory answer) = lasts-files (with_offset unix.files file _) (in_phase mine phase) (offset-keeps mine number _ file held)
   change-lasts mine goes state (takes_pipe number count file bytes phase held is answer) = lasts-same (with_contents unix.files file (Pipe (drop count bytes))) (in_phase mine phase) refl
-  change-lasts mine goes state (puts_pipe number file bytes written held is few) = lasts-same (with_contents unix.files file (Pipe (bytes ++ written))) (in_phase mine (answered (length written))) refl
-  change-lasts mine goes state (writes_file number place file bytes written held is below room) =
+  change-lasts mine goes state (puts_pipe number file bytes written given_so held is few) = lasts-same (with_contents unix.files file (Pipe (bytes ++ written))) (in_phase mine (answered (length written))) refl
+  change-lasts mine goes state (writes_file number place file bytes written given_so held is below room) =
       lasts-files (with_written unix file bytes place (take (most_file_bytes - place) written)).files (in_phase mine (answered (length (take (most_file_bytes - place) written)))) (offset-keeps mine number _ file held)
   change-lasts mine goes state (resizes number size file bytes held is few room) = lasts-same (with_resized unix file bytes size).files (in_phase mine (answered 0)) refl
   change-lasts mine goes state (opens path flags number lowest spot new low free walk opening_so) = opening-lasts flags number spot new (in_phase (with_descriptor mine lowest number) (answered lowest)) free opening_so

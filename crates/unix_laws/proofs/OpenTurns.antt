@@ -10,7 +10,7 @@ use Rattle.unix_model.specs.Files.{Files, Description, Directory, Pipe, free_des
 use Rattle.unix_model.specs.Limits.{description_count, descriptor_count, most_file_bytes, slot_count}
 use Rattle.unix_model.specs.NameCalls.{ToOpen, moved, opening, removed, with_link, with_made, with_opened, with_truncated}
 use Rattle.unix_model.specs.Paths.{Spot}
-use Rattle.unix_model.specs.Process.{Process, Phase, Exiting, answered, descriptor, in_phase, lowest_closed, lowest_open, next_closed, with_descriptor, without_descriptor, zombie}
+use Rattle.unix_model.specs.Process.{Process, SentCall, Phase, Exiting, answered, descriptor, in_phase, lowest_closed, lowest_open, next_closed, with_descriptor, without_descriptor, zombie}
 use Rattle.unix_model.specs.ProcessCalls.{EndedChild, child, forked, is_ending, least_ended, with_killed, with_program}
 use Rattle.unix_model.specs.Rules.{AreOpen}
 use Rattle.unix_model.specs.State.{Unix, Opened, free_slot, opened, phase_word, with_descriptor_closed, with_files, with_phase, with_process, without_process}
@@ -53,39 +53,39 @@ renaming-descriptions unix from to named files (onto given is first second third
 renaming-descriptions unix from to named files (anew is place room) = moved-descriptions (with_link unix to named).files from to named
 
 -- the lowest closed descriptor, and the next one
-lowest-is : (process : Process) (lowest : ℕ) → lowest_closed process ≡ Some lowest → (lowest < descriptor_count) × (descriptor process lowest ≡ None)
+pub lowest-is : (process : Process) (lowest : ℕ) → lowest_closed process ≡ Some lowest → (lowest < descriptor_count) × (descriptor process lowest ≡ None)
 unfolding lowest_closed
 lowest-is process lowest e =
     let least : Passes (λ number. is_none (descriptor process number)) descriptor_count lowest = least-passes (λ number. is_none (descriptor process number)) descriptor_count lowest e in
     (least.below, none-is (descriptor process lowest) least.holds)
 
-next-is : (process : Process) (first second : ℕ) → next_closed process first ≡ Some second → (second < descriptor_count) × (second ≢ first) × (descriptor process second ≡ None)
+pub next-is : (process : Process) (first second : ℕ) → next_closed process first ≡ Some second → (second < descriptor_count) × (second ≢ first) × (descriptor process second ≡ None)
 unfolding next_closed
 next-is process first second e =
     let least : Passes (λ number. not (number == first) && is_none (descriptor process number)) descriptor_count second = least-passes (λ number. not (number == first) && is_none (descriptor process number)) descriptor_count second e in
     let both : (not (second == first) ≡ true) × (is_none (descriptor process second) ≡ true) = and-both (not (second == first)) (is_none (descriptor process second)) least.holds in
     (least.below, not-apart second first both.0, none-is (descriptor process second) both.1)
 
-free-is : (descriptions : ℕ → Option Description) (number : ℕ) → free_description descriptions ≡ Some number → at descriptions number ≡ None
+pub free-is : (descriptions : ℕ → Option Description) (number : ℕ) → free_description descriptions ≡ Some number → at descriptions number ≡ None
 unfolding free_description
 free-is descriptions number e =
     let least : Passes (λ n. is_none (at descriptions n)) description_count number = least-passes (λ n. is_none (at descriptions n)) description_count number e in
     none-is (at descriptions number) least.holds
 
-next-free : (descriptions : ℕ → Option Description) (reader writer : ℕ) → next_description descriptions reader ≡ Some writer → (writer ≢ reader) × (at descriptions writer ≡ None)
+pub next-free : (descriptions : ℕ → Option Description) (reader writer : ℕ) → next_description descriptions reader ≡ Some writer → (writer ≢ reader) × (at descriptions writer ≡ None)
 unfolding next_description
 next-free descriptions reader writer e =
     let least : Passes (λ n. not (n == reader) && is_none (at descriptions n)) description_count writer = least-passes (λ n. not (n == reader) && is_none (at descriptions n)) description_count writer e in
     let both : (not (writer == reader) ≡ true) × (is_none (at descriptions writer) ≡ true) = and-both (not (writer == reader)) (is_none (at descriptions writer)) least.holds in
     (not-apart writer reader both.0, none-is (at descriptions writer) both.1)
 
-free-slot-is : (processes : ℕ → Option Process) (place : ℕ) → free_slot processes ≡ Some place → at processes place ≡ None
+pub free-slot-is : (processes : ℕ → Option Process) (place : ℕ) → free_slot processes ≡ Some place → at processes place ≡ None
 unfolding free_slot
 free-slot-is processes place e =
     let least : Passes (λ slot. is_none (at processes slot)) slot_count place = least-passes (λ slot. is_none (at processes slot)) slot_count place e in
     none-is (at processes place) least.holds
 
-none-open : (process : Process) → length process.descriptors ≡ descriptor_count → lowest_open process ≡ None → (number n : ℕ) → descriptor process number ≡ Some n → ⊥
+pub none-open : (process : Process) → length process.descriptors ≡ descriptor_count → lowest_open process ≡ None → (number n : ℕ) → descriptor process number ≡ Some n → ⊥
 unfolding lowest_open
 none-open process size none number n names = elim (cases_lt number descriptor_count) as (λ _. ⊥) [
   | inl below ↦ true-false (sym (ap is_some names) ∙ none-passes (λ k. is_some (descriptor process k)) descriptor_count none number below)
@@ -218,13 +218,13 @@ module _ (unix : Unix) (mover : ℕ) (mine : Process) (slots : HaveDescriptors u
       goes (with_killed unix target signal (at unix.processes target)) mine (in_phase mine (answered 0)) (killed-own target signal (at unix.processes target) (apart-of target mover apart)) refl
       (open-killed unix target signal (at unix.processes target) refl holds)
 
-  change-opens : phase_word mine.phase ≡ None → (state : Unix) → Changes unix mover mine state → Opens state
+  change-opens : {sent : SentCall} → phase_word mine.phase ≡ None → (state : Unix) → Changes unix mover mine sent state → Opens state
   change-opens lives state (settles phase answer) = same (in_phase mine phase) refl
   change-opens lives state (exits word) = same (in_phase mine (Exiting word)) refl
   change-opens lives state (forks place free pid room) = forked-goes place free
-  change-opens lives state (loads file plan strings planned room) = same (with_program mine file plan strings) (program-descriptors mine file plan strings)
+  change-opens lives state (loads inode file plan held planned room) = same (with_program mine file plan _) (program-descriptors mine file plan _)
   change-opens lives state (reaps wanted ended phase least answer) = reaped-goes wanted ended phase lives least
-  change-opens lives state (kills pid target signal is apart) = killed-goes target signal apart
+  change-opens lives state (kills pid target signal given_so is apart) = killed-goes target signal apart
   change-opens lives state (dups number lowest file held low) = dup-goes number lowest file (answered lowest) held low
   change-opens lives state (closes number) = closed-goes number (answered 0)
   change-opens lives state (dups_to number to file held apart) = set-goes number to file (answered to) held (apart-of number to apart)
@@ -234,8 +234,8 @@ module _ (unix : Unix) (mover : ℕ) (mine : Process) (slots : HaveDescriptors u
   change-opens lives state (seeks number place file held stream aligned below) = offset-goes number place file (answered place) held
   change-opens lives state (lists number count file phase held directory answer) = offset-goes number _ file phase held
   change-opens lives state (takes_pipe number count file bytes phase held is answer) = files-same (with_contents unix.files file (Pipe (drop count bytes))) phase refl
-  change-opens lives state (puts_pipe number file bytes written held is few) = files-same (with_contents unix.files file (Pipe (bytes ++ written))) (answered (length written)) refl
-  change-opens lives state (writes_file number place file bytes written held is below room) =
+  change-opens lives state (puts_pipe number file bytes written given_so held is few) = files-same (with_contents unix.files file (Pipe (bytes ++ written))) (answered (length written)) refl
+  change-opens lives state (writes_file number place file bytes written given_so held is below room) =
       files-go (with_written unix file bytes place (take (most_file_bytes - place) written)).files (in_phase mine (answered (length (take (most_file_bytes - place) written)))) (offset-numbers number _ file held) refl
   change-opens lives state (resizes number size file bytes held is few room) = files-same (with_resized unix file bytes size).files (answered 0) refl
   change-opens lives state (opens path flags number lowest spot new low free walk opening_so) = opening-goes flags number lowest spot new low free opening_so

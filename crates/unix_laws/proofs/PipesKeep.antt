@@ -9,7 +9,7 @@ use Rattle.unix_model.specs.Files.{console_inode, root_inode, Files, Inode, File
 use Rattle.unix_model.specs.Limits.{pipe_bytes}
 use Rattle.unix_model.specs.NameCalls.{ToOpen, moved, removed, with_link, with_made, with_parent, with_truncated}
 use Rattle.unix_model.specs.Paths.{Spot}
-use Rattle.unix_model.specs.Process.{Process, descriptor, without_descriptor}
+use Rattle.unix_model.specs.Process.{Process, SentCall, descriptor, without_descriptor}
 use Rattle.unix_model.specs.ProcessCalls.{is_ending, with_killed}
 use Rattle.unix_model.specs.State.{Unix, has_descriptor, with_description_released, with_descriptor_closed, with_process}
 use Rattle.unix_model.specs.Tables.{at, nothing, with_at}
@@ -104,13 +104,13 @@ removed-small files spot number rest = dropped (without_name files spot.director
 few : (i j : ℕ) → nat_lt i j ≡ false → j ≤ i
 few i j e = grind (arith, nat_tests)
 
-change-small : (unix : Unix) (slot : ℕ) (mine : Process) → AllSmall unix.files.inodes → (state : Unix) → Changes unix slot mine state → AllSmall state.files.inodes
+change-small : {sent : SentCall} (unix : Unix) (slot : ℕ) (mine : Process) → AllSmall unix.files.inodes → (state : Unix) → Changes unix slot mine sent state → AllSmall state.files.inodes
 change-small unix slot mine rest state (settles phase answer) = rest
 change-small unix slot mine rest state (exits word) = rest
 change-small unix slot mine rest state (forks place free pid room) = rest
-change-small unix slot mine rest state (loads file plan strings planned room) = rest
+change-small unix slot mine rest state (loads inode file plan held planned room) = rest
 change-small unix slot mine rest state (reaps wanted ended phase least answer) = rest
-change-small unix slot mine rest state (kills pid target signal is apart) = killed unix target signal (at unix.processes target) rest
+change-small unix slot mine rest state (kills pid target signal given_so is apart) = killed unix target signal (at unix.processes target) rest
 change-small unix slot mine rest state (dups number lowest file held low) = rest
 change-small unix slot mine rest state (closes number) = closed unix slot mine number (descriptor mine number) rest
 change-small unix slot mine rest state (dups_to number to file held apart) = closed unix slot mine to (descriptor mine to) rest
@@ -121,9 +121,9 @@ change-small unix slot mine rest state (lists number count file phase held direc
 change-small unix slot mine rest state (takes_pipe number count file bytes phase held is answer) =
     let before : length bytes ≤ pipe_bytes = subst Small is (rest file.description.inode) in
     put unix.files.inodes file.description.inode (Some (Pipe (drop count bytes))) (omega (arith, before, length-drop count bytes)) rest
-change-small unix slot mine rest state (puts_pipe number file bytes written held is full) =
+change-small unix slot mine rest state (puts_pipe number file bytes written given_so held is full) =
     put unix.files.inodes file.description.inode (Some (Pipe (bytes ++ written))) (omega (arith, length-append bytes written, few pipe_bytes (length bytes + length written) full)) rest
-change-small unix slot mine rest state (writes_file number place file bytes written held is below room) = put unix.files.inodes file.description.inode (Some (File _)) tt rest
+change-small unix slot mine rest state (writes_file number place file bytes written given_so held is below room) = put unix.files.inodes file.description.inode (Some (File _)) tt rest
 change-small unix slot mine rest state (resizes number size file bytes held is below room) = put unix.files.inodes file.description.inode (Some (File _)) tt rest
 change-small unix slot mine rest state (opens path flags number lowest spot new low free walk opening_so) = opened-small unix flags spot new opening_so rest
 change-small unix slot mine rest state (makes_directory path spot number walk free making_so) = made-small unix spot number (Directory spot.directory []) tt rest

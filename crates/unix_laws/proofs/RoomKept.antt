@@ -18,7 +18,7 @@ use Rattle.unix_model.specs.Limits.{most_file_bytes, place_bytes}
 use Rattle.unix_model.specs.Memory.{Memory, mapped_pages, all_writable, bytes_at, word_at}
 use Rattle.unix_model.specs.NameCalls.{ToOpen, removed, opening, moved, with_link, with_made, with_opened, with_parent, with_truncated}
 use Rattle.unix_model.specs.Paths.{Spot}
-use Rattle.unix_model.specs.Process.{Process, Phase, Run, Asked, Sent, Done, Exiting, Zombie, answered, descriptor, in_phase, with_descriptor, without_descriptor, zombie}
+use Rattle.unix_model.specs.Process.{Process, SentCall, Phase, Run, Asked, Sent, Done, Exiting, Zombie, answered, descriptor, in_phase, with_descriptor, without_descriptor, zombie}
 use Rattle.unix_model.specs.ProcessCalls.{child, forked, with_loaded, with_killed, is_ending}
 use Rattle.unix_model.specs.Room.{promised, has_room, process_pages, live_pages}
 use Rattle.unix_model.specs.State.{Unix, Opened, adopted, has_descriptor, opened_inode, with_descriptor_closed, with_description_released, with_files, with_phase, with_process, without_process}
@@ -236,28 +236,28 @@ module _ (unix : Unix) (slot : ℕ) (process : Process) (stands : process_pages 
       goes-less (with_files unix (with_contents unix.files file (Pipe now))) process phase
       (put-files unix (with_contents unix.files file (Pipe now)) (put-inode unix.files unix.files file.description.inode (Some (Pipe now)) (omega (arith, ap inode_pages is)) (λ k. omega arith))) refl
 
-  opening-fits : (path : List ℕ) (flags number lowest : ℕ) (spot : Spot) (new : ToOpen) → Opening unix flags spot new
+  opening-fits : (flags number lowest : ℕ) (spot : Spot) (new : ToOpen) → Opening unix flags spot new
       → Fits unix.pages (with_phase (with_opened new.state number (opening flags new.inode)) slot (with_descriptor process lowest number) (answered lowest))
-  opening-fits path flags number lowest spot new (finds found there reads) =
+  opening-fits flags number lowest spot new (finds found there reads) =
       goes-fits (with_opened (with_truncated unix flags found) number (opening flags found)) (with_descriptor process lowest number) (answered lowest)
       (opened-fits unix.pages (with_truncated unix flags found) number (opening flags found) (truncated-fits unix flags found fits))
       (truncated-stands flags found)
-  opening-fits path flags number lowest spot new (creates made_number there making_so) =
+  opening-fits flags number lowest spot new (creates made_number there making_so) =
       goes-fits (with_opened (with_made unix spot made_number (File [])) number (opening flags made_number)) (with_descriptor process lowest number) (answered lowest)
       (opened-fits unix.pages (with_made unix spot made_number (File [])) number (opening flags made_number) (making-fits unix spot (File []) made_number making_so)) stands
 
   removed-fits : (spot : Spot) (gone : ℕ) → Fits unix.pages (with_phase (with_files unix (removed unix.files spot gone)) slot process (answered 0))
   removed-fits spot gone = goes-less (with_files unix (removed unix.files spot gone)) process (answered 0) (put-files unix (removed unix.files spot gone) (removed-fewer unix.files spot gone)) refl
 
-  change-fits : (state : Unix) → Changes unix slot process state → Fits unix.pages state
+  change-fits : {sent : SentCall} (state : Unix) → Changes unix slot process sent state → Fits unix.pages state
   change-fits state (settles phase answer) = goes-less unix process phase (as-before unix) refl
   change-fits state (exits word) = goes-less unix process (Exiting word) (as-before unix) refl
   change-fits state (forks place free pid room) = goes-fits (forked unix place process) process (answered unix.next_pid) (fits-room unix.pages (forked unix place process) room refl) (forked-stands place)
-  change-fits state (loads file plan strings planned room) = fits-room unix.pages (with_loaded unix slot process file plan strings) room refl
+  change-fits state (loads inode file plan held planned room) = fits-room unix.pages (with_loaded unix slot process file plan _) room refl
   change-fits state (reaps wanted ended phase least answer) =
       goes-less (without_process unix ended.slot) process phase
       record { slots = put-less process_pages unix.processes unix.processes ended.slot None (omega arith) (λ k. omega arith); inodes = λ k. omega arith; pages = refl } refl
-  change-fits state (kills pid target signal there other) =
+  change-fits state (kills pid target signal given_so there other) =
       goes-less (with_killed unix target signal (at unix.processes target)) process (answered 0) (killed unix target signal (at unix.processes target) refl) refl
   change-fits state (dups number lowest file held low) = goes-less unix (with_descriptor process lowest file.number) (answered lowest) (as-before unix) refl
   change-fits state (closes number) =
@@ -271,13 +271,13 @@ module _ (unix : Unix) (slot : ℕ) (process : Process) (stands : process_pages 
   change-fits state (lists number count file phase held directory answer) =
       offset-fits file (file.description.offset + place_bytes * looked_at count (drop (file.description.offset / place_bytes) (places_of (opened_inode unix file)))) phase
   change-fits state (takes_pipe number count file bytes phase held is answer) = pipe-fits file bytes (drop count bytes) phase is
-  change-fits state (puts_pipe number file bytes written held is few) = pipe-fits file bytes (bytes ++ written) (answered (length written)) is
-  change-fits state (writes_file number place file bytes written held is below room) =
+  change-fits state (puts_pipe number file bytes written given_so held is few) = pipe-fits file bytes (bytes ++ written) (answered (length written)) is
+  change-fits state (writes_file number place file bytes written given_so held is below room) =
       goes-fits (with_written unix file bytes place (take (most_file_bytes - place) written)) process (answered (length (take (most_file_bytes - place) written)))
       (fits-room unix.pages (with_written unix file bytes place (take (most_file_bytes - place) written)) room refl) stands
   change-fits state (resizes number size file bytes held is few room) =
       goes-fits (with_resized unix file bytes size) process (answered 0) (fits-room unix.pages (with_resized unix file bytes size) room refl) stands
-  change-fits state (opens path flags number lowest spot new low free walk opening_so) = opening-fits path flags number lowest spot new opening_so
+  change-fits state (opens path flags number lowest spot new low free walk opening_so) = opening-fits flags number lowest spot new opening_so
   change-fits state (makes_directory path spot number walk free making_so) =
       goes-fits (with_made unix spot number (Directory spot.directory [])) process (answered 0) (making-fits unix spot (Directory spot.directory []) number making_so) stands
   change-fits state (removes_directory path spot gone walk root dots there directory names) = removed-fits spot gone

@@ -55,7 +55,7 @@ came unix mover slot found p sent stays e phase = record { process = p; there = 
 came unix mover slot found p sent (gone mine ended there is at_slot) e phase = some-differ p e
 came unix mover slot found p sent (born mine there free below) e phase =
     no-sent (answered 0) sent tt (ap (λ (x : Process). x.phase) (some-same (child unix.next_pid mine) p e) ∙ phase)
-came unix mover slot found p sent (killed process signal there goes) e phase =
+came unix mover slot found p sent (killed process signal there goes by) e phase =
     no-sent (Exiting signal) sent tt (ap (λ (x : Process). x.phase) (some-same (in_phase process (Exiting signal)) p e) ∙ phase)
 came unix mover slot found p sent (adopts mine there) e phase = adopted-came unix slot mine.pid (at unix.processes slot) p sent refl e phase
 
@@ -103,13 +103,13 @@ module _ (unix : Unix) (mover : ℕ) (p : Process) where
   put-phase : (state : Unix) (next : Process) (phase : Phase) → NoSent phase → Mine (with_phase state mover next phase)
   put-phase state next phase none = put state (in_phase next phase) none
 
-  change-mine : (mine : Process) (state : Unix) → Changes unix mover mine state → Mine state
+  change-mine : {sent : SentCall} (mine : Process) (state : Unix) → Changes unix mover mine sent state → Mine state
   change-mine mine state (settles phase answer) = put-phase unix mine phase (answer-quiet phase answer)
   change-mine mine state (exits word) = put-phase unix mine (Exiting word) tt
   change-mine mine state (forks place free pid room) = put-phase _ mine (answered unix.next_pid) tt
-  change-mine mine state (loads file plan strings planned room) = put unix (with_program mine file plan strings) (program-quiet mine file plan strings)
+  change-mine mine state (loads inode file plan held planned room) = put unix (with_program mine file plan _) (program-quiet mine file plan _)
   change-mine mine state (reaps wanted ended phase least answer) = put-phase _ mine phase (answer-quiet phase answer)
-  change-mine mine state (kills pid target signal is differ) = put-phase _ mine (answered 0) tt
+  change-mine mine state (kills pid target signal given_so is differ) = put-phase _ mine (answered 0) tt
   change-mine mine state (dups number lowest file held low) = put-phase unix (with_descriptor mine lowest file.number) (answered lowest) tt
   change-mine mine state (closes number) = put-phase _ (without_descriptor mine number) (answered 0) tt
   change-mine mine state (dups_to number to file held differ) = put-phase _ (with_descriptor mine to file.number) (answered to) tt
@@ -118,8 +118,8 @@ module _ (unix : Unix) (mover : ℕ) (p : Process) where
   change-mine mine state (seeks number place file held stream aligned below) = put-phase _ mine (answered place) tt
   change-mine mine state (lists number count file phase held directory answer) = put-phase _ mine phase (answer-quiet phase answer)
   change-mine mine state (takes_pipe number count file bytes phase held is answer) = put-phase _ mine phase (answer-quiet phase answer)
-  change-mine mine state (puts_pipe number file bytes written held is few) = put-phase _ mine (answered _) tt
-  change-mine mine state (writes_file number place file bytes written held is below room) = put-phase _ mine (answered _) tt
+  change-mine mine state (puts_pipe number file bytes written given_so held is few) = put-phase _ mine (answered _) tt
+  change-mine mine state (writes_file number place file bytes written given_so held is below room) = put-phase _ mine (answered _) tt
   change-mine mine state (resizes number size file bytes held is few room) = put-phase _ mine (answered 0) tt
   change-mine mine state (opens path flags number lowest spot new low free walk opening_so) = put-phase _ (with_descriptor mine lowest number) (answered lowest) tt
   change-mine mine state (makes_directory path spot number walk free making_so) = put-phase _ mine (answered 0) tt

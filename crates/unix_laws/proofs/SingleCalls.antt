@@ -6,21 +6,21 @@ use Rattle.std.proofs.lemmas.Slice.Eq.{bytes_eq-Decides}
 use Rattle.std.proofs.Math.Seq.{drop-append_seam, take-append_seam}
 use Rattle.std.specs.Prelude.{◌==◌, ◌&&◌, is_none, nat_le, nat_lt}
 use Rattle.unix_model.specs.declared.calls.Errno.{Errno}
-use Rattle.unix_model.specs.declared.calls.Errno.TheVariants.{Eagain, Enomem, Epipe}
-use Rattle.unix_model.specs.Effect.{Line, Waits, Goes}
-use Rattle.unix_model.specs.FileCalls.{overwritten, with_contents}
-use Rattle.unix_model.specs.Files.{Entry, Pipe, has_reader, has_writer, inode_named, place_inode}
-use Rattle.unix_model.specs.Limits.{pid_end, pipe_bytes, slot_count}
-use Rattle.unix_model.specs.Process.{answered, answered_with, in_phase}
+use Rattle.unix_model.specs.declared.calls.Errno.TheVariants.{Eagain, Efbig, Enomem, Enospc, Epipe}
+use Rattle.unix_model.specs.Effect.{Line, Waits, Goes, replies_with}
+use Rattle.unix_model.specs.FileCalls.{overwritten, with_contents, with_offset, with_written, write_place}
+use Rattle.unix_model.specs.Files.{Entry, File, Pipe, has_reader, has_writer, inode_named, place_inode}
+use Rattle.unix_model.specs.Limits.{most_file_bytes, pid_end, pipe_bytes, slot_count}
+use Rattle.unix_model.specs.Process.{Process, answered, answered_with, in_phase}
 use Rattle.unix_model.specs.ProcessCalls.{child, forked}
 use Rattle.unix_model.specs.Room.{has_room}
-use Rattle.unix_model.specs.State.{Unix, free_slot, with_files, with_phase}
+use Rattle.unix_model.specs.State.{Unix, Opened, free_slot, with_files, with_phase}
 use Rattle.unix_model.specs.Tables.{at, with_at, option_or}
 use Rattle.unix_model.proofs.TableLaws.{at-with_at, at-with_at-other}
 use Rattle.unix_laws.proofs.Basics.{some-differ, none-is}
 use Rattle.unix_laws.proofs.Counting.{Passes, least-passes}
 use Rattle.unix_laws.proofs.Lines.{asks, bars, either, needs}
-use Rattle.unix_laws.specs.CallLaws.{PipeTakesAtEnd, GivesPiece, PipeGivesFront, WrittenIsRead, NewNameGoes, HasChild, ForkLeavesChild}
+use Rattle.unix_laws.specs.CallLaws.{PipeTakesAtEnd, GivesPiece, PipeGivesFront, WriteThenRead, WritesPart, WrittenIsRead, NewNameGoes, HasChild, ForkLeavesChild}
 
 -- a property of the state, where the line gives this one
 abbrev If : (Unix → Type 0) → Unix → Line → Type 0
@@ -85,6 +85,31 @@ written_is_read bytes written place =
           ap (take place) (append_assoc front written rest ∙ append_assoc (take place bytes) (replicate (place - length bytes) 0) (written ++ rest))
           ∙ take-front (take place bytes) (replicate (place - length bytes) 0 ++ (written ++ rest)) place (omega (arith, length-take place bytes)),
     )
+
+written-parts : (unix : Unix) (slot : ℕ) (process : Process) (file : Opened) (bytes written : List ℕ)
+    → WritesPart (with_phase (with_written unix file bytes (write_place file.description bytes) (take (most_file_bytes - write_place file.description bytes) written)) slot process (answered (length (take (most_file_bytes - write_place file.description bytes) written))))
+    slot process file bytes written
+written-parts unix slot process file bytes written =
+    let place : ℕ = write_place file.description bytes in
+    let part : List ℕ = take (most_file_bytes - place) written in
+    record {
+      part = part;
+      part_is = refl;
+      contents = at-with_at unix.files.inodes file.description.inode (Some (File (overwritten bytes place part)));
+      answered_so = at-with_at unix.processes slot (Some (in_phase process (answered (length part))));
+      reads = λ reader other taker input again address same.
+          ap (λ piece. replies_with (with_files reader (with_offset reader.files again (again.description.offset + length piece))) other taker (length piece) address piece)
+          (ap (λ n. take (length part) (drop n (overwritten bytes place part))) same ∙ (written_is_read bytes part place).0);
+    }
+
+pub write_then_read : WriteThenRead
+write_then_read unix state slot process file bytes written =
+    let place : ℕ = write_place file.description bytes in
+    let part : List ℕ = take (most_file_bytes - place) written in
+    let P : Unix → Type 0 = λ s. WritesPart s slot process file bytes written in
+    bars (If P state) (if-refused P state) Efbig (nat_le most_file_bytes place) _ (λ below.
+    asks (If P state) (if-refused P state) Enospc (has_room (with_written unix file bytes place part)) _ (λ room.
+    if-goes P state (with_phase (with_written unix file bytes place part) slot process (answered (length part))) (written-parts unix slot process file bytes written)))
 
 -- an entry has its name
 names-itself : (entry : Entry) → place_inode entry.name (Some entry) ≡ Some entry.inode

@@ -7,7 +7,7 @@ use Rattle.unix_model.specs.Enter.{has_flag}
 use Rattle.unix_model.specs.Limits.{slot_count}
 use Rattle.unix_model.specs.NameCalls.{ToOpen, opening, with_opened, with_truncated}
 use Rattle.unix_model.specs.Paths.{Spot}
-use Rattle.unix_model.specs.Process.{Process, Exiting, descriptor, in_phase, without_descriptor}
+use Rattle.unix_model.specs.Process.{Process, SentCall, Exiting, descriptor, in_phase, without_descriptor}
 use Rattle.unix_model.specs.ProcessCalls.{is_ending, with_killed}
 use Rattle.unix_model.specs.State.{Unix, has_descriptor, with_description_released, with_descriptor_closed, with_process}
 use Rattle.unix_model.specs.Tables.{at}
@@ -55,13 +55,13 @@ module _ (unix : Unix) where
   opened flags number slot next spot new (finds found is reads) = let same : Same unix (with_truncated unix flags found) = truncated flags found in record { pages = same.pages; quantum = same.quantum; position = same.position }
   opened flags number slot next spot new (creates given is making_so) = record { pages = refl; quantum = refl; position = refl }
 
-  change-same : (slot : ℕ) (mine : Process) (state : Unix) → Changes unix slot mine state → Same unix state
+  change-same : {sent : SentCall} (slot : ℕ) (mine : Process) (state : Unix) → Changes unix slot mine sent state → Same unix state
   change-same slot mine state (settles phase answer) = record { pages = refl; quantum = refl; position = refl }
   change-same slot mine state (exits word) = record { pages = refl; quantum = refl; position = refl }
   change-same slot mine state (forks place free pid room) = record { pages = refl; quantum = refl; position = refl }
-  change-same slot mine state (loads file plan strings planned room) = record { pages = refl; quantum = refl; position = refl }
+  change-same slot mine state (loads inode file plan held planned room) = record { pages = refl; quantum = refl; position = refl }
   change-same slot mine state (reaps wanted ended phase least answer) = record { pages = refl; quantum = refl; position = refl }
-  change-same slot mine state (kills pid target signal is differ) = past (with_killed unix target signal (at unix.processes target)) slot _ (killed target signal (at unix.processes target))
+  change-same slot mine state (kills pid target signal given_so is differ) = past (with_killed unix target signal (at unix.processes target)) slot _ (killed target signal (at unix.processes target))
   change-same slot mine state (dups number lowest file held low) = record { pages = refl; quantum = refl; position = refl }
   change-same slot mine state (closes number) = past (with_descriptor_closed unix slot mine number (descriptor mine number)) slot _ (closed slot mine number (descriptor mine number))
   change-same slot mine state (dups_to number to file held differ) = past (with_descriptor_closed unix slot mine to (descriptor mine to)) slot _ (closed slot mine to (descriptor mine to))
@@ -70,8 +70,8 @@ module _ (unix : Unix) where
   change-same slot mine state (seeks number place file held stream aligned below) = record { pages = refl; quantum = refl; position = refl }
   change-same slot mine state (lists number count file phase held directory answer) = record { pages = refl; quantum = refl; position = refl }
   change-same slot mine state (takes_pipe number count file bytes phase held is answer) = record { pages = refl; quantum = refl; position = refl }
-  change-same slot mine state (puts_pipe number file bytes written held is few) = record { pages = refl; quantum = refl; position = refl }
-  change-same slot mine state (writes_file number place file bytes written held is below room) = record { pages = refl; quantum = refl; position = refl }
+  change-same slot mine state (puts_pipe number file bytes written given_so held is few) = record { pages = refl; quantum = refl; position = refl }
+  change-same slot mine state (writes_file number place file bytes written given_so held is below room) = record { pages = refl; quantum = refl; position = refl }
   change-same slot mine state (resizes number size file bytes held is few room) = record { pages = refl; quantum = refl; position = refl }
   change-same slot mine state (opens path flags number lowest spot new low free walk opening_so) = opened flags number slot _ spot new opening_so
   change-same slot mine state (makes_directory path spot number walk free making_so) = record { pages = refl; quantum = refl; position = refl }

@@ -131,7 +131,7 @@ pub data TurnChanges (unix : Unix) (slot : ℕ) : Unix → Type 0 where
   idles : TurnChanges unix slot unix
   runs : (process : Process) → at unix.processes slot ≡ Some process → process.phase ≡ Run → TurnChanges unix slot (with_process unix slot (ran process))
   enters : (process after : Process) → at unix.processes slot ≡ Some process → process.phase ≡ Asked → Enters unix slot process after → TurnChanges unix slot (with_process unix slot after)
-  effects : (process : Process) (sent : SentCall) (state : Unix) → at unix.processes slot ≡ Some process → process.phase ≡ Sent sent → Changes unix slot process state → TurnChanges unix slot state
+  effects : (process : Process) (sent : SentCall) (state : Unix) → at unix.processes slot ≡ Some process → process.phase ≡ Sent sent → Changes unix slot process sent state → TurnChanges unix slot state
   returns : (process : Process) (value address : ℕ) (bytes : List ℕ) → at unix.processes slot ≡ Some process → process.phase ≡ Done value address bytes
       → TurnChanges unix slot (with_process unix slot (returned process value address bytes))
   drops : (process : Process) (word lowest : ℕ) → at unix.processes slot ≡ Some process → process.phase ≡ Exiting word → lowest_open process ≡ Some lowest
@@ -140,7 +140,7 @@ pub data TurnChanges (unix : Unix) (slot : ℕ) : Unix → Type 0 where
       → TurnChanges unix slot (with_orphans_adopted process.pid (with_process unix slot (zombie process word)))
 
 settled-changes : (unix : Unix) (slot : ℕ) (process : Process) (sent : SentCall) (input : List ℕ) (line : Line) → at unix.processes slot ≡ Some process → process.phase ≡ Sent sent
-    → Gives (Changes unix slot process) input line → TurnChanges unix slot (settled unix slot process input line).state
+    → Gives (Changes unix slot process sent) input line → TurnChanges unix slot (settled unix slot process input line).state
 settled-changes unix slot process sent input (Err errno) there is gives = effects process sent _ there is (settles _ tt)
 settled-changes unix slot process sent input (Ok Waits) there is gives = idles
 settled-changes unix slot process sent input (Ok (Goes state)) there is gives = effects process sent _ there is gives
@@ -162,7 +162,7 @@ in-changes calls unix slot process input (Done value address bytes) there is = r
 in-changes calls unix slot process input (Exiting word) there is = exit-changes unix slot process word (lowest_open process) there is refl
 in-changes calls unix slot process input (Zombie word) there is = idles
 
-at-changes : (calls : Calls) (unix : Unix) (slot : ℕ) (input : List ℕ) (found : Option Process) → at unix.processes slot ≡ found → TurnChanges unix slot (turned_at calls unix slot input found).state
+pub at-changes : (calls : Calls) (unix : Unix) (slot : ℕ) (input : List ℕ) (found : Option Process) → at unix.processes slot ≡ found → TurnChanges unix slot (turned_at calls unix slot input found).state
 at-changes calls unix slot input None there = idles
 at-changes calls unix slot input (Some process) there = in-changes calls unix slot process input process.phase there refl
 

@@ -1,14 +1,14 @@
 -- Laws of single calls, in the words of their readers.
-use Rattle.std.specs.Prelude.{◌≡◌, ◌≤◌, ℕ, min, List, ◌++◌, take, drop, length, Option, Some, None, Ok}
+use Rattle.std.specs.Prelude.{◌≡◌, ◌≤◌, ℕ, ◌+◌, ◌-◌, min, List, ◌++◌, take, drop, length, Option, Some, None, Ok}
 use Rattle.unix_model.specs.Boot.{BootEntry, booted}
 use Rattle.unix_model.specs.Calls.{Calls}
-use Rattle.unix_model.specs.Effect.{Goes}
-use Rattle.unix_model.specs.FileCalls.{overwritten, reads_from, writes_to}
-use Rattle.unix_model.specs.Files.{Entry, Pipe, inode_named, with_entry, with_place}
-use Rattle.unix_model.specs.Limits.{pipe_bytes}
+use Rattle.unix_model.specs.Effect.{Goes, replies_with}
+use Rattle.unix_model.specs.FileCalls.{overwritten, reads_from, with_offset, write_place, writes_to}
+use Rattle.unix_model.specs.Files.{Entry, File, Pipe, inode_named, with_entry, with_place}
+use Rattle.unix_model.specs.Limits.{most_file_bytes, pipe_bytes}
 use Rattle.unix_model.specs.Process.{Process, answered, answered_with, in_phase}
 use Rattle.unix_model.specs.ProcessCalls.{fork_line}
-use Rattle.unix_model.specs.State.{Unix, Opened}
+use Rattle.unix_model.specs.State.{Unix, Opened, with_files}
 use Rattle.unix_model.specs.Tables.{at}
 use Rattle.unix_model.specs.Turn.{turned}
 
@@ -41,6 +41,23 @@ WrittenIsRead =
     (bytes written : List ℕ) (place : ℕ)
     → (take (length written) (drop place (overwritten bytes place written)) ≡ written)
     × (place ≤ length bytes → take place (overwritten bytes place written) ≡ take place bytes)
+
+-- a write to a file: the part that fits is written where the write begins, and a read of so many bytes from there gives it
+pub record WritesPart (state : Unix) (slot : ℕ) (process : Process) (file : Opened) (bytes written : List ℕ) : Type 0 where
+  pub part : List ℕ
+  pub part_is : part ≡ take (most_file_bytes - write_place file.description bytes) written
+  pub contents : at state.files.inodes file.description.inode ≡ Some (File (overwritten bytes (write_place file.description bytes) part))
+  pub answered_so : at state.processes slot ≡ Some (in_phase process (answered (length part)))
+  pub reads : (reader : Unix) (other : ℕ) (taker : Process) (input : List ℕ) (again : Opened) (address : ℕ) → again.description.offset ≡ write_place file.description bytes
+      → reads_from reader other taker input again address (length part) (Some (File (overwritten bytes (write_place file.description bytes) part)))
+      ≡ replies_with (with_files reader (with_offset reader.files again (again.description.offset + length part))) other taker (length part) address part
+
+-- So a write and then a read at one offset give back what was written.
+abbrev pub WriteThenRead : Type 0
+WriteThenRead =
+    (unix state : Unix) (slot : ℕ) (process : Process) (file : Opened) (bytes written : List ℕ)
+    → writes_to unix slot process file written (Some (File bytes)) ≡ Ok (Goes state)
+    → WritesPart state slot process file bytes written
 
 -- A new name that is taken away again leaves each name of its directory with the inode that it had.
 abbrev pub NewNameGoes : Type 0

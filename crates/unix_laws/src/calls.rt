@@ -1,6 +1,6 @@
 //! Single calls, in the words of their readers.
 
-ghost use Rattle.unix_laws.specs.CallLaws.{PipeTakesAtEnd, PipeGivesFront, PipesKept, BootPipesFit, WrittenIsRead, NewNameGoes, ForkLeavesChild};
+ghost use Rattle.unix_laws.specs.CallLaws.{PipeTakesAtEnd, PipeGivesFront, PipesKept, BootPipesFit, WrittenIsRead, WriteThenRead, NewNameGoes, ForkLeavesChild};
 
 /// What is written to a pipe stands behind what it held, and a pipe never holds more than its limit.
 pub fn pipe_takes_at_end()
@@ -25,6 +25,11 @@ pub fn pipes_kept()
 /// What is written to a file at a place is read there again, and no byte before it changes.
 pub fn written_is_read()
     ensures { WrittenIsRead }
+{}
+
+/// A write to a file and then a read at its place give back what was written.
+pub fn write_then_read()
+    ensures { WriteThenRead }
 {}
 
 /// A new name that is taken away again leaves each name of its directory with the inode that it had.

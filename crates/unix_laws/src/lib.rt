@@ -14,7 +14,7 @@ mod turns;
 
 pub use calls::{
     boot_pipes_fit, fork_leaves_child, new_name_goes, pipe_gives_front, pipe_takes_at_end,
-    pipes_kept, written_is_read,
+    pipes_kept, write_then_read, written_is_read,
 };
 pub use descriptors::{
     free_description_exists, sent_descriptors_are_open, two_free_descriptions_exist,
