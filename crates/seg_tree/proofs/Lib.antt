@@ -1,3 +1,4 @@
+pub mod BlockCounts
 pub mod Copying
 pub mod Children
 pub mod Owning

@@ -1,7 +1,7 @@
 -- A page is taken with the bytes of another one, and put in its place.
-use Rattle.std.proofs.Common.{◌≡◌, ◌≢◌, ◌<◌, ◌≤◌, ◌+◌, ◌-◌, ◌*◌, ◌==◌, ◌&&◌, not, if◌then◌else◌, ℕ, Bool, true, false, Option, Some, None, List, [], ◌∷◌, length, set, get_or, get_or-set_same, get_or-set_other, refl, ap, sym, subst, ◌∙◌, arith, add-zero}
+use Rattle.std.proofs.Common.{◌≡◌, ◌≢◌, ◌<◌, ◌≤◌, ◌+◌, ◌-◌, ◌*◌, ◌==◌, ◌&&◌, not, if◌then◌else◌, ℕ, Bool, true, false, Option, Some, None, List, [], ◌∷◌, length, set, get_or, get_or-set_same, get_or-set_other, refl, ap, sym, subst, ◌∙◌, arith, add-zero, ◌⊎◌, inl, inr, ⊎_elim}
 use Rattle.std.specs.Option.{is_some, IsSome}
-use Rattle.std.proofs.lemmas.Bool.{ne_eqb}
+use Rattle.std.proofs.lemmas.Bool.{ne_eqb, cases_eq}
 use Rattle.kn_base.specs.declared.key.Key.{Key}
 use Rattle.kn_base.specs.declared.key.Key.TheVariants.{Page}
 use Rattle.kn_base.specs.declared.key.PageId.{PageId}
@@ -16,11 +16,12 @@ use Rattle.space_bank.specs.Bank.{BankGood}
 use Rattle.space_bank.specs.Shares.{Outside, Shares}
 use Rattle.unix_model.specs.Tables.{at}
 use Rattle.forest.specs.Objects.{Object, PageObject, NodeObject, Owner, named}
-use Rattle.forest.specs.Walks.{place_of}
-use Rattle.forest.specs.Forest.{Forest}
+use Rattle.forest.specs.Walks.{place_of, key_along, space_key}
+use Rattle.forest.specs.Forest.{Forest, Sound, IsSpace}
 use Rattle.forest.specs.Changes.{with_taken, with_key, lowered}
 use Rattle.forest.proofs.ExactLaws.{with_object-here}
 use Rattle.forest.proofs.HeldLaws.{other_object}
+use Rattle.forest.proofs.CopyLaws.{end_owned}
 use Rattle.forest.proofs.ReleaseLaws.{some_not_none}
 use Rattle.kernel_forest.specs.Trees.{forest_of, outside_trees, tree_in, page_tree, IsTreeKey}
 use Rattle.kernel_forest.specs.Moves.{TakesFreshPage, PutsKey, LowersKey}
@@ -44,6 +45,15 @@ in_use kernel page good owned =
       inside = its_page kernel page here;
       used = tree_used (entry_at kernel.page_entries (page - first_page kernel.size)) here.some;
     }
+
+-- what a walk ends at is page 0, or in use
+pub way_in_use : (kernel : Kernel) (space : ℕ) (way : List ℕ) (page : PageId) (writable : Bool) → BankGood kernel → Sound (forest_of kernel) → IsSpace (forest_of kernel) [] space
+    → key_along (forest_of kernel).keys (space_key space) way ≡ Page page writable → (page.0 ≡ 0) ⊎ IsInUse kernel page.0
+way_in_use kernel space way page writable good sound is e = ⊎_elim
+    (λ (t : page.0 ≡ 0). inl t)
+    (λ (t : page.0 ≢ 0). inr (in_use kernel page.0 good (end_owned (forest_of kernel) [] sound space is way (PageObject page.0)
+    (ap named e ∙ rw (ne_eqb page.0 0 t) refl))))
+    (cases_eq page.0 0)
 
 memory_real : (kernel : Kernel) (page : ℕ) → page ≢ 0 → memory_page kernel page ≡ bank_page kernel page
 memory_real kernel page real = rw (ne_eqb page 0 real) refl

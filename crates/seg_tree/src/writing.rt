@@ -12,6 +12,7 @@ ghost use Rattle.forest.specs.Forest.{IsSpace};
 ghost use Rattle.forest.specs.Calls.{IsOwn};
 ghost use Rattle.kernel_forest.specs.Trees.{forest_of, page_tree, TreesGood};
 ghost use Rattle.kernel_forest.specs.Moves.{TakesFreshPage, LowersKey};
+ghost use Rattle.seg_tree.specs.Blocks.{ChangesAtMost};
 ghost use Rattle.seg_tree.specs.Writes.{CopiesPage, CopiesLeaf, Owns, page_key, writable_mapping, may_write};
 
 use super::descent::own_node;
@@ -29,6 +30,7 @@ fn take_tree_page<T: Store>(store: &mut T, owner: PageOwner) -> PageId
     requires room { let old = kernel_of (T.memory store.old) in old.machine.pages_taken < old.size }
     ensures taken { (to : Owner) → page_tree owner ≡ Some to → TakesFreshPage (kernel_of (T.memory store.old)) (kernel_of (T.memory store.new)) result.0 to }
     ensures good { BankGood (kernel_of (T.memory store.new)) }
+    ensures blocks { ChangesAtMost (T.blocks store.old) (T.blocks store.new) 2 }
     ensures keeps { T.keeps store.old store.new }
 {
     match take_page(store, owner) {
@@ -46,6 +48,7 @@ fn take_copy<T: Store>(store: &mut T, found: PageId, owner: PageOwner) -> PageId
     requires owned { found.0 ≢ 0 → IsSome ((forest_of (kernel_of (T.memory store.old))).owner (PageObject found.0)) }
     ensures copied { (to : Owner) → page_tree owner ≡ Some to → CopiesPage (kernel_of (T.memory store.old)) (kernel_of (T.memory store.new)) found.0 result.0 to }
     ensures good { BankGood (kernel_of (T.memory store.new)) }
+    ensures blocks { ChangesAtMost (T.blocks store.old) (T.blocks store.new) 3 }
     ensures keeps { T.keeps store.old store.new }
 {
     let fresh = take_tree_page(store, owner);
@@ -62,6 +65,7 @@ fn lower_leaf<T: Store>(store: &mut T, page: PageId)
     requires shared { page.0 ≢ 0 → 2 ≤ (forest_of (kernel_of (T.memory store.old))).count (PageObject page.0) }
     ensures lowered { LowersKey (kernel_of (T.memory store.old)) (kernel_of (T.memory store.new)) (page_key page.0) }
     ensures good { BankGood (kernel_of (T.memory store.new)) }
+    ensures blocks { ChangesAtMost (T.blocks store.old) (T.blocks store.new) 1 }
     ensures keeps { T.keeps store.old store.new }
 {
     if page.0 != 0 {
@@ -88,6 +92,7 @@ fn copy_leaf<T: Store>(
     requires shared { found.0 ≢ 0 → 2 ≤ (forest_of (kernel_of (T.memory store.old))).count (PageObject found.0) }
     ensures copied { (to : Owner) → page_tree owner ≡ Some to → CopiesLeaf (kernel_of (T.memory store.old)) (kernel_of (T.memory store.new)) (place_of node.0 digit) found.0 result.0 to }
     ensures good { BankGood (kernel_of (T.memory store.new)) }
+    ensures blocks { ChangesAtMost (T.blocks store.old) (T.blocks store.new) 5 }
     ensures keeps { T.keeps store.old store.new }
 {
     let fresh = take_copy(store, found, owner);
@@ -128,6 +133,7 @@ fn own_page<T: Store>(
     requires page_room { let old = kernel_of (T.memory store.old) in (IsOwn (forest_of old) space.0 page (writable_mapping found.0) → ⊥) → old.machine.pages_taken < old.size }
     ensures own { Owns (kernel_of (T.memory store.old)) (kernel_of (T.memory store.new)) space.0 page result.0 owner }
     ensures good { BankGood (kernel_of (T.memory store.new)) }
+    ensures blocks { ChangesAtMost (T.blocks store.old) (T.blocks store.new) 89 }
     ensures keeps { T.keeps store.old store.new }
 {
     let node_owner = tree_owner(store, space);
@@ -158,6 +164,7 @@ pub fn writable<T: Store>(
     requires page_room { let old = kernel_of (T.memory store.old) in (found : Mapping) → map_of (forest_of old).keys space.0.0 page ≡ Some found → found.writable ≡ true → (IsOwn (forest_of old) space.0.0 page found → ⊥) → old.machine.pages_taken < old.size }
     ensures written { let old = kernel_of (T.memory store.old) in let new = kernel_of (T.memory store.new) in MatchOption result ((may_write (map_of (forest_of old).keys space.0.0 page) ≡ false) × (new ≡ old)) (λ id. Owns old new space.0.0 page id.0 owner) }
     ensures good { BankGood (kernel_of (T.memory store.new)) }
+    ensures blocks { ChangesAtMost (T.blocks store.old) (T.blocks store.new) 89 }
     ensures keeps { T.keeps store.old store.new }
 {
     match find(store, space, page) {

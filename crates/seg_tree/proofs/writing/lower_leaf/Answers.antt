@@ -1,8 +1,9 @@
-use Rattle.std.proofs.Common.{◌≤◌, ℕ, true, subst}
+use Rattle.std.proofs.Common.{arith, ◌≤◌, ℕ, true, subst}
 use Rattle.kernel_tables.specs.Kernel.{kernel_of}
 use Rattle.kernel_forest.proofs.Bridge.{page_inside}
 use Rattle.kernel_forest.proofs.Moves.{page_shares, lowers_page_key}
 use Rattle.seg_tree.proofs.PageCopies.{in_use, lowers_zero}
+use Rattle.seg_tree.proofs.BlockCounts.{at_most, none_at_most}
 use Rattle.seg_tree.proofs.writing.lower_leaf.Goals as goal
 
 pub lower_page-requires-clause-page : goal.lower_page-requires-clause-page
@@ -21,3 +22,9 @@ returns-then-page-ne0-clause-lowered g c =
 
 pub returns-else-page-ne0-clause-lowered : goal.returns-else-page-ne0-clause-lowered
 returns-else-page-ne0-clause-lowered g c = lowers_zero (kernel_of (g.T.Store.memory c.args.store.now)) c.args.page.0 c.if-page-ne0.false
+
+pub returns-then-page-ne0-clause-blocks : goal.returns-then-page-ne0-clause-blocks
+returns-then-page-ne0-clause-blocks g c = at_most 1 (omega arith) c.lower_page.ensures.blocks
+
+pub returns-else-page-ne0-clause-blocks : goal.returns-else-page-ne0-clause-blocks
+returns-else-page-ne0-clause-blocks g c = none_at_most 1

@@ -7,6 +7,7 @@ use Rattle.kernel_forest.specs.Trees.{TreesGood}
 use Rattle.seg_tree.proofs.Levels.{some_owner}
 use Rattle.seg_tree.proofs.Mapping.{page_top}
 use Rattle.seg_tree.proofs.Making.{node_owned, found_owned, stands, own_single, owns_kept, owns_copied, is_once, not_once, many_found, fresh_real}
+use Rattle.seg_tree.proofs.BlockCounts.{more_at_most, widen_most}
 use Rattle.seg_tree.proofs.writing.own_page.Goals as goal
 
 pub own_node-node-requires-clause-top : goal.own_node-node-requires-clause-top
@@ -113,3 +114,9 @@ returns-else-is_single-clause-own g c =
     all.0 all.1 d real in
     many_found mid c.args.found.0 all.0 d.trees there (not_once mid c.args.found.0 c.is_single.result c.is_single.ensures c.if-is_single.false real))
     (λ real one. not_once mid c.args.found.0 c.is_single.result c.is_single.ensures c.if-is_single.false real one)
+
+pub returns-then-is_single-clause-blocks : goal.returns-then-is_single-clause-blocks
+returns-then-is_single-clause-blocks g c = widen_most 89 (omega arith) c.own_node-node.ensures.blocks
+
+pub returns-else-is_single-clause-blocks : goal.returns-else-is_single-clause-blocks
+returns-else-is_single-clause-blocks g c = more_at_most 89 (omega arith) c.own_node-node.ensures.blocks c.copy_leaf.ensures.blocks
