@@ -4,6 +4,7 @@ pub mod Children
 pub mod Owning
 pub mod Levels
 pub mod Walking
+pub mod PruneWays
 pub mod Mapping
 pub mod OwnPages
 pub mod Adding
