@@ -1,3 +1,4 @@
+pub mod Emptiness
 pub mod BlockCounts
 pub mod Copying
 pub mod Children
@@ -13,4 +14,5 @@ pub mod PageCopies
 pub mod Sharing
 pub mod Replacing
 pub mod Making
+pub mod Cutting
 pub mod Counting

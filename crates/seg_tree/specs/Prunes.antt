@@ -21,7 +21,7 @@ pub record TakesOff (old new : Kernel) (place node : ℕ) : Type 0 where
   pub rest : KeepsUnreleased old new
   pub bank : new.bank ≡ old.bank
   pub fewer : new.machine.nodes_taken ≤ old.machine.nodes_taken
-  pub shares : (outside : Outside) → Shares old outside [] → Shares new outside []
+  pub shares : (outside : Outside) → TreesGood old outside [] → Shares new outside []
 
 -- Empty nodes were taken out. All spaces stay, and keep their maps.
 pub record Prunes (old new : Kernel) : Type 0 where
