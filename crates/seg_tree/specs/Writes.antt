@@ -9,7 +9,7 @@ use Rattle.space_bank.specs.FreeList.{is_free}
 use Rattle.space_bank.specs.Shares.{Outside, Shares}
 use Rattle.unix_model.specs.Tables.{at, with_at}
 use Rattle.forest.specs.Objects.{PageObject, Owner}
-use Rattle.forest.specs.Walks.{Mapping, map_of, place_of}
+use Rattle.forest.specs.Walks.{Mapping, map_of}
 use Rattle.forest.specs.Forest.{Forest, IsSpace, NoneEmpty}
 use Rattle.forest.specs.Changes.{with_taken, with_key, lowered, IsFree}
 use Rattle.forest.specs.Calls.{ChangesMap, IsOwn}

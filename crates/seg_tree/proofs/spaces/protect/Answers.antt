@@ -65,7 +65,7 @@ pub returns-in-None-clause-protected : goal.returns-in-None-clause-protected
 returns-in-None-clause-protected g c found is = let no : None ≡ Some found = c.in-None.ensures.found ∙ is in cc
 
 pub returns-in-Some-clause-blocks : goal.returns-in-Some-clause-blocks
-returns-in-Some-clause-blocks g c = 
+returns-in-Some-clause-blocks g c =
     more_at_most 89 (omega arith) c.raise_key.ensures.blocks (more_at_most 88 (omega arith) c.put_leaf-was.ensures.blocks c.release_leaf.ensures.blocks)
 
 pub returns-in-None-clause-blocks : goal.returns-in-None-clause-blocks
