@@ -126,16 +126,16 @@ module _ (old mid : Kernel) (found fresh : ℕ) (to : Owner) (good : BankGood ol
       }
 
 -- page 0 is not counted
-pub lowers_zero : (kernel : Kernel) (page : ℕ) → page ≡ 0 → LowersKey kernel kernel (page_key page)
-lowers_zero kernel page none = record {
+pub lowers_zero : (kernel : Kernel) (page : PageId) (writable : Bool) → page.0 ≡ 0 → LowersKey kernel kernel (Page page writable)
+lowers_zero kernel page writable none = record {
   steps = record {
-    forest_now = ap (λ n. lowered (forest_of kernel) (page_key n)) (sym none);
+    forest_now = ap (λ n. lowered (forest_of kernel) (Page (record { 0 = n }) writable)) (sym none);
     outside_now = λ outside. refl;
     rows_now = λ mine apart. refl;
     rest = refl;
     number = sym (add-zero kernel.machine.nodes_taken);
   };
-  shares = λ outside hand counted. (uncounted_in_hand kernel outside hand (page_key page) (ap (λ n. named (page_key n)) none) tt).1 counted;
+  shares = λ outside hand counted. (uncounted_in_hand kernel outside hand (Page page writable) (ap (λ n. named (Page (record { 0 = n }) writable)) none) tt).1 counted;
 }
 
 -- what must hold so that the copy may be put
