@@ -2,4 +2,8 @@
 pub mod Steps
 pub mod Leaves
 pub mod Releases
+pub mod Blocks
 pub mod Promises
+pub mod Writes
+pub mod Prunes
+pub mod Checks

@@ -1,21 +1,25 @@
 //! The steps of which calls on spaces are made.
 
-ghost use Rattle.std.specs.Prelude.{◌≡◌, ℕ, ◌+◌, ◌*◌, ◌<◌, ◌≤◌, IsSome, Some};
-ghost use Rattle.kn_base.specs.declared.key.Key.TheVariants.{Null, Segment};
+ghost use Rattle.std.specs.Prelude.{◌≡◌, ℕ, ◌+◌, ◌*◌, ◌<◌, ◌≤◌, ◌≢◌, Bool, IsSome, Some, [], ◌∷◌};
+ghost use Rattle.kn_base.specs.declared.key.Key.TheVariants.{Null, Page, Segment};
 ghost use Rattle.kn_base.specs.Memory.{Memory};
 ghost use Rattle.kernel_tables.specs.Kernel.{Kernel, kernel_of, Sized, IsSized};
 ghost use Rattle.space_bank.specs.Bank.{BankGood};
 ghost use Rattle.unix_model.specs.Tables.{at};
-ghost use Rattle.forest.specs.Objects.{NodeObject, Owner};
+ghost use Rattle.forest.specs.Objects.{PageObject, NodeObject, Owner};
 ghost use Rattle.forest.specs.Walks.{place_of};
 ghost use Rattle.kernel_forest.specs.Trees.{forest_of, node_tree, IsTreeKey};
 ghost use Rattle.kernel_tables.specs.Rows.{key_table};
 ghost use Rattle.kernel_forest.specs.Moves.{MayRaise, RaisesKey, PutsKey, TakesFresh, LowersKey, Changes};
+ghost use Rattle.kernel_tables.specs.Blocks.{key_block, ChangesBlocks};
+ghost use Rattle.seg_tree.specs.Blocks.{ChangesBeside, ChangesAtMost};
 ghost use Rattle.seg_tree.specs.Steps.{MayCopyKey, MayCopy, key_copied, copying, segment_of, MayOwn, FreshChild, OwnsChild};
 
 use kernel_tables::{NodeOwner, key_at};
-use kn_base::{Key, NodeId, Store};
-use space_bank::{lower_node, node_count, raise_node, raise_page, take_node, write_key};
+use kn_base::{Key, NodeId, PageId, Store};
+use space_bank::{
+    lower_node, lower_page, node_count, raise_node, raise_page, take_node, write_key,
+};
 
 /// The key at a place of a node, and Null where none is spelled.
 #[tactic(auto, unfolding(kernel_tables::specs::Rows::key_table))]
@@ -47,6 +51,7 @@ pub fn raise_key<T: Store>(store: &mut T, key: Key)
     requires may { MayRaise (forest_of (kernel_of (T.memory store.old))) key }
     ensures raised { RaisesKey (kernel_of (T.memory store.old)) (kernel_of (T.memory store.new)) key }
     ensures good { BankGood (kernel_of (T.memory store.new)) }
+    ensures blocks { ChangesAtMost (T.blocks store.old) (T.blocks store.new) 1 }
     ensures keeps { T.keeps store.old store.new }
 {
     match key {
@@ -69,6 +74,7 @@ pub fn put_key<T: Store>(store: &mut T, node: NodeId, digit: u8, key: Key)
     requires was_of_tree { IsTreeKey (at (forest_of (kernel_of (T.memory store.old))).keys (place_of node.0 digit)) }
     ensures put { PutsKey (kernel_of (T.memory store.old)) (kernel_of (T.memory store.new)) (place_of node.0 digit) key }
     ensures good { BankGood (kernel_of (T.memory store.new)) }
+    ensures blocks { ChangesBlocks (T.blocks store.old) (T.blocks store.new) (key_block (kernel_of (T.memory store.old)).pages node.0 ∷ []) }
     ensures keeps { T.keeps store.old store.new }
 {
     write_key(store, node, digit, key);
@@ -80,6 +86,7 @@ pub fn take_tree_node<T: Store>(store: &mut T, owner: NodeOwner) -> NodeId
     requires room { let old = kernel_of (T.memory store.old) in old.machine.nodes_taken + 15 < old.nodes }
     ensures taken { (to : Owner) → node_tree owner ≡ Some to → TakesFresh (kernel_of (T.memory store.old)) (kernel_of (T.memory store.new)) result.0 to }
     ensures good { BankGood (kernel_of (T.memory store.new)) }
+    ensures blocks { ChangesAtMost (T.blocks store.old) (T.blocks store.new) 2 }
     ensures keeps { T.keeps store.old store.new }
 {
     match take_node(store, owner) {
@@ -95,9 +102,25 @@ pub fn lower_key<T: Store>(store: &mut T, node: NodeId)
     requires shared { 2 ≤ (forest_of (kernel_of (T.memory store.old))).count (NodeObject node.0) }
     ensures lowered { (height : ℕ) → LowersKey (kernel_of (T.memory store.old)) (kernel_of (T.memory store.new)) (Segment node height) }
     ensures good { BankGood (kernel_of (T.memory store.new)) }
+    ensures blocks { ChangesAtMost (T.blocks store.old) (T.blocks store.new) 1 }
     ensures keeps { T.keeps store.old store.new }
 {
     lower_node(store, node);
+}
+
+/// Counts a page of a tree once less, which is counted more than once, unless it is page 0, which is not counted.
+pub fn lower_leaf<T: Store>(store: &mut T, page: PageId)
+    requires good { BankGood (kernel_of (T.memory store.old)) }
+    requires owned { page.0 ≢ 0 → IsSome ((forest_of (kernel_of (T.memory store.old))).owner (PageObject page.0)) }
+    requires shared { page.0 ≢ 0 → 2 ≤ (forest_of (kernel_of (T.memory store.old))).count (PageObject page.0) }
+    ensures lowered { (writable : Bool) → LowersKey (kernel_of (T.memory store.old)) (kernel_of (T.memory store.new)) (Page page writable) }
+    ensures good { BankGood (kernel_of (T.memory store.new)) }
+    ensures blocks { ChangesAtMost (T.blocks store.old) (T.blocks store.new) 1 }
+    ensures keeps { T.keeps store.old store.new }
+{
+    if page.0 != 0 {
+        lower_page(store, page);
+    }
 }
 
 // Copies a key of a node to an empty place of another one.
@@ -107,6 +130,7 @@ fn copy_key<T: Store>(store: &mut T, from: NodeId, to: NodeId, digit: u8)
     requires may { MayCopyKey (forest_of (kernel_of (T.memory store.old))) from.0 to.0 digit }
     ensures copied { let old = kernel_of (T.memory store.old) in Changes old (kernel_of (T.memory store.new)) (key_copied (forest_of old) (at (forest_of old).keys (place_of from.0 digit)) (place_of to.0 digit)) 0 }
     ensures good { BankGood (kernel_of (T.memory store.new)) }
+    ensures blocks { ChangesBeside (T.blocks store.old) (T.blocks store.new) (key_block (kernel_of (T.memory store.old)).pages to.0 ∷ []) 1 }
     ensures keeps { T.keeps store.old store.new }
 {
     let key = tree_key(store, from, digit);
@@ -120,6 +144,7 @@ pub fn copy_keys<T: Store>(store: &mut T, from: NodeId, to: NodeId)
     requires may { MayCopy (forest_of (kernel_of (T.memory store.old))) from.0 to.0 }
     ensures copied { let old = kernel_of (T.memory store.old) in Changes old (kernel_of (T.memory store.new)) (copying (forest_of old) from.0 to.0 16) 0 }
     ensures good { BankGood (kernel_of (T.memory store.new)) }
+    ensures blocks { ChangesAtMost (T.blocks store.old) (T.blocks store.new) 17 }
     ensures keeps { T.keeps store.old store.new }
 {
     for digit in 0..16 {
@@ -153,6 +178,7 @@ fn copy_child<T: Store>(
     requires shared { 2 ≤ (forest_of (kernel_of (T.memory store.old))).count (NodeObject child.0) }
     ensures fresh { (to : Owner) → node_tree owner ≡ Some to → FreshChild (kernel_of (T.memory store.old)) (kernel_of (T.memory store.new)) (place_of node.0 digit) height to result.0 }
     ensures good { BankGood (kernel_of (T.memory store.new)) }
+    ensures blocks { ChangesAtMost (T.blocks store.old) (T.blocks store.new) 21 }
     ensures keeps { T.keeps store.old store.new }
 {
     let fresh = take_tree_node(store, owner);
@@ -176,6 +202,7 @@ fn add_child<T: Store>(
     requires empty { at (forest_of (kernel_of (T.memory store.old))).keys (place_of node.0 digit) ≡ Null }
     ensures fresh { (to : Owner) → node_tree owner ≡ Some to → FreshChild (kernel_of (T.memory store.old)) (kernel_of (T.memory store.new)) (place_of node.0 digit) height to result.0 }
     ensures good { BankGood (kernel_of (T.memory store.new)) }
+    ensures blocks { ChangesAtMost (T.blocks store.old) (T.blocks store.new) 21 }
     ensures keeps { T.keeps store.old store.new }
 {
     let fresh = take_tree_node(store, owner);
@@ -196,6 +223,7 @@ pub fn own_child<T: Store>(
     requires may { (to : Owner) × (node_tree owner ≡ Some to) × MayOwn (forest_of (kernel_of (T.memory store.old))) node.0 digit height to }
     ensures own { (to : Owner) → node_tree owner ≡ Some to → OwnsChild (kernel_of (T.memory store.old)) (kernel_of (T.memory store.new)) (place_of node.0 digit) height to result.0 }
     ensures good { BankGood (kernel_of (T.memory store.new)) }
+    ensures blocks { ChangesAtMost (T.blocks store.old) (T.blocks store.new) 21 }
     ensures keeps { T.keeps store.old store.new }
 {
     match segment_of(tree_key(store, node, digit)) {

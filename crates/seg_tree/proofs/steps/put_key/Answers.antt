@@ -12,3 +12,6 @@ write_key-requires-clause-inside g c = node_below (kernel_of (g.T.Store.memory c
 
 pub write_key-requires-clause-used : goal.write_key-requires-clause-used
 write_key-requires-clause-used g c = node_used (kernel_of (g.T.Store.memory c.args.store.now)) c.args.node.0 c.requires.owned
+
+pub returns-clause-blocks : goal.returns-clause-blocks
+returns-clause-blocks g c = c.write_key.ensures.blocks
