@@ -1,2 +1,4 @@
 pub mod PlaceLaws
 pub mod PageLaws
+pub mod StackLaws
+pub mod ImageLaws

@@ -3,3 +3,5 @@ pub mod PageView
 pub mod RegionView
 pub mod PagesView
 pub mod MemoryView
+pub mod StringsView
+pub mod Stacked
