@@ -1,0 +1,5 @@
+pub mod Fields
+pub mod PageView
+pub mod RegionView
+pub mod PagesView
+pub mod MemoryView
