@@ -1,14 +1,12 @@
 -- Loads, one more at a time.
-use Rattle.std.proofs.Common.{◌≡◌, ◌≢◌, ◌⊎◌, ℕ, zero, suc, ◌+◌, ◌*◌, ◌/◌, ◌<◌, ◌≤◌, ◌^◌, [], ◌∷◌, List, length, take, get_or, Bool, true, false, Option, Some, None, arith, refl, sym, ap, ◌∙◌, inl, inr}
-use Rattle.std.proofs.Math.Bool.{or_assoc, or-false, and-false}
+use Rattle.std.proofs.Common.{◌≡◌, ◌⊎◌, ℕ, zero, suc, ◌+◌, ◌/◌, ◌<◌, ◌≤◌, ◌^◌, [], ◌∷◌, List, length, take, get_or, Bool, true, false, Option, Some, None, arith, refl, sym, ap, ◌∙◌, inl, inr}
+use Rattle.std.proofs.Math.Bool.{or_assoc, or-false}
 use Rattle.std.proofs.Math.Path.{fun_ext}
-use Rattle.std.proofs.lemmas.Bool.{cases_Bool, le-ltb}
 use Rattle.std.proofs.lemmas.Bool.Decides.{eqb_tells, nat_tests}
 use Rattle.std.proofs.lemmas.List.{take_more}
 use Rattle.std.proofs.lemmas.List.Folds.{list_any-append, list_any_at, list_any_more}
-use Rattle.std.specs.List.{All, list_any}
-use Rattle.std.specs.Prelude.{◌||◌, ◌&&◌, is_some, nat_le, nat_lt, if◌then◌else◌}
-use Rattle.elf_read.specs.Accepted.{IsLoadable}
+use Rattle.std.specs.List.{list_any}
+use Rattle.std.specs.Prelude.{◌||◌, is_some, if◌then◌else◌}
 use Rattle.unix_model.specs.declared.elf.Load.{Load}
 use Rattle.unix_model.specs.Loading.{image, image_byte, in_stack, page_mapped, stack_bytes, stack_pointer, touches}
 use Rattle.unix_model.specs.Memory.{Memory, Page, mapped_pages}

@@ -2,3 +2,4 @@ pub mod PlaceLaws
 pub mod PageLaws
 pub mod StackLaws
 pub mod ImageLaws
+pub mod BreakLaws

@@ -17,7 +17,7 @@ pub struct Memory {
 }
 
 impl Memory {
-    ghost use Rattle.std.specs.Prelude.{◌≡◌, ℕ, ◌<◌, ◌≤◌, ◌+◌, ◌/◌, ◌^◌, IfOk, OnOk, Some, None, is_some, length};
+    ghost use Rattle.std.specs.Prelude.{◌≡◌, ℕ, ◌<◌, ◌≤◌, ◌+◌, ◌/◌, ◌^◌, IfNone, IfOk, IfSome, OnOk, Some, None, is_some, length};
     ghost use Rattle.unix_model.specs.Memory.{mapped_pages, with_bytes, with_break, with_zero_pages, without_pages, zero_page};
     ghost use Rattle.unix_model.specs.Numbers.{pages_of};
     ghost use Rattle.unix_model.specs.Tables.{at, nothing, option_or, with_at};
@@ -171,9 +171,25 @@ impl Memory {
         Ok(())
     }
 
-    /// How many pages are mapped after that.
+    /// How many pages are mapped after that. None where they are more than a limit: then no more pages than the limit
+    /// were looked at.
+    #[tactic(auto, using(crate::proofs::BreakLaws::breaks))]
+    pub fn mapped_with_break(&self, start: u32, old: u32, new: u32, most: u32) -> Option<u32>
+        requires { (start ≤ new) × (new ≤ 0x7FFE_0000) × (old ≤ 0x7FFE_0000) }
+        ensures mapped { IfSome result (λ mapped. mapped ≡ mapped_pages (with_break (memory_of self.now) start old new)) }
+        ensures few { IfSome result (λ mapped. mapped ≤ 2 ^ 19) }
+        ensures many { IfNone result (most < mapped_pages (with_break (memory_of self.now) start old new)) }
+    {
+        if new.div_ceil(4096) - start / 4096 > most {
+            return None;
+        }
+        let mapped = self.count_with_break(start, old, new);
+        if mapped > most { None } else { Some(mapped) }
+    }
+
+    /// The same without a limit.
     #[tactic(auto, using(unix_model::proofs::CountLaws::page_ranges, unix_model::proofs::CountLaws::mapped_few))]
-    pub fn mapped_with_break(&self, start: u32, old: u32, new: u32) -> u32
+    fn count_with_break(&self, start: u32, old: u32, new: u32) -> u32
         requires { (start ≤ new) × (new ≤ 0x7FFE_0000) × (old ≤ 0x7FFE_0000) }
         ensures mapped { result ≡ mapped_pages (with_break (memory_of self.now) start old new) }
         ensures few { result ≤ 2 ^ 19 }

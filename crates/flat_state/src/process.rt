@@ -4,7 +4,7 @@ use crate::answer::Answer;
 use crate::heap::Heap;
 use crate::phases::{is_description, phase_after};
 use crate::sent_call::SentCall;
-use flat_memory::{Memory, execute};
+use flat_memory::{Memory, Program, execute};
 use std::alloc::{AllocError, Global};
 use unix_model::{Errno, Regs};
 
@@ -44,13 +44,17 @@ impl Process {
     ghost use Rattle.std.specs.Prelude.{◌≡◌, ◌+◌, ◌<◌, ◌≤◌, ◌^◌, [], IfOk, IfSome, length};
     ghost use Rattle.unix_model.specs.Process as model;
     ghost use Rattle.unix_model.specs.Process.{argument, lowest_open, lowest_closed};
-    ghost use Rattle.unix_model.specs.ProcessCalls.{child};
+    ghost use Rattle.unix_model.specs.ProcessCalls.{child, is_ending, with_program};
     ghost use Rattle.unix_model.specs.Calls.{refusal_word};
     ghost use Rattle.unix_model.specs.Memory.{mapped_pages, with_break};
     ghost use Rattle.unix_model.specs.Turn.{ran, returned, signal_of, phase_after as phase_after_outcome};
     ghost use Rattle.std.specs.List.{list_any};
     ghost use Rattle.unix_model.specs.Room.{live_pages};
     ghost use Rattle.unix_model.specs.State.{adopted, names_description, phase_word};
+    ghost use Rattle.std.specs.Prelude.{ℕ, List};
+    ghost use Rattle.unix_model.specs.Elf.{LoadPlan};
+    ghost use Rattle.unix_model.specs.Loading.{image, start_registers};
+    ghost use Rattle.flat_memory.specs.MemoryView.{memory_of};
     ghost use Rattle.flat_state.specs.ProcessView.{process_of, phase_of};
 
     /// One instruction.
@@ -226,6 +230,33 @@ impl Process {
         if self.parent == ended {
             self.parent = 1;
         }
+        self
+    }
+
+    /// Whether it ends already.
+    pub fn is_ending(&self) -> bool
+        ensures { result ≡ is_ending (process_of self.now).phase }
+    {
+        match self.phase {
+            Phase::Exiting(_) | Phase::Zombie(_) => true,
+            _ => false,
+        }
+    }
+
+    /// The process with a program in place of what it was; its descriptors stay.
+    #[tactic(auto, unfolding(unix_model::specs::ProcessCalls::with_program))]
+    pub fn with_program(mut self, program: Program, break_start: u32) -> Process
+        requires { break_start ≤ 0x7FFE_0000 }
+        ensures { (file : List ℕ) (plan : LoadPlan) (strings : List (List ℕ)) → program.registers ≡ start_registers plan.entry strings → memory_of program.memory ≡ image file plan.loads strings → break_start ≡ plan.break_start
+            → process_of result ≡ with_program (process_of self) file plan strings }
+    {
+        self.registers = program.registers;
+        self.memory = program.memory;
+        self.heap = Heap {
+            start: break_start,
+            end: break_start,
+        };
+        self.phase = Phase::Run;
         self
     }
 

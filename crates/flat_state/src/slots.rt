@@ -22,7 +22,7 @@ impl Slots {
     ghost use Rattle.std.specs.Prelude.{◌≡◌, ◌≢◌, ◌<◌, ◌≤◌, ◌^◌, IfOk, IfSome, None, Some, is_none, not, ◌&&◌, ◌==◌, option_map, if◌then◌else◌};
     ghost use Rattle.unix_model.specs.ProcessCalls.{ended_in, is_waited, least_ended};
     ghost use Rattle.flat_state.specs.EndedChildView.{ended_child_of};
-    ghost use Rattle.unix_model.specs.State.{adopted, has_descriptor, process_names, process_word};
+    ghost use Rattle.unix_model.specs.State.{adopted, has_descriptor, has_pid, process_names, process_word, slot_of};
     ghost use Rattle.unix_model.specs.Tables.{any_below, at, least_below, with_at, nothing, sum_below};
     ghost use Rattle.unix_model.specs.Room.{process_pages};
     ghost use Rattle.unix_model.specs.Turn.{ran};
@@ -94,6 +94,32 @@ impl Slots {
         ensures { result ≡ is_none (at (slots_of self.now) slot) }
     {
         self.table.get(slot).is_none()
+    }
+
+    /// The slot of the process of a pid.
+    #[tactic(auto, using(unix_model::proofs::TableLaws::steps), unfolding(unix_model::specs::State::slot_of))]
+    pub fn slot_of(&self, pid: u32) -> Option<u8>
+        ensures least { result ≡ slot_of (slots_of self.now) pid }
+        ensures inside { IfSome result (λ slot. slot < 64) }
+    {
+        let mut found = None;
+        for slot in 0..64u8 {
+            if found.is_none() && self.has_pid(slot, pid) {
+                found = Some(slot);
+            }
+        }
+        found
+    }
+
+    /// Whether the process of a slot has a pid.
+    fn has_pid(&self, slot: u8, pid: u32) -> bool
+        requires { slot < 64 }
+        ensures { result ≡ has_pid pid (at (slots_of self.now) slot) }
+    {
+        match self.table.get(slot) {
+            Some(process) => process.pid == pid,
+            None => false,
+        }
     }
 
     /// Whether some process is a child that is waited for.

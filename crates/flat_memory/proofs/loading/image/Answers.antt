@@ -1,4 +1,3 @@
-use Rattle.std.proofs.Common.{◌≡◌}
 use Rattle.unix_model.specs.Memory.{Memory}
 use Rattle.flat_memory.specs.MemoryView.{memory_of}
 use Rattle.flat_memory.specs.Stacked.{stacked_image}

@@ -1,6 +1,5 @@
-use Rattle.std.proofs.Common.{◌≡◌, arith, ap, ◌∙◌, ℕ, ◌+◌, ◌/◌}
+use Rattle.std.proofs.Common.{◌≡◌, arith, ◌+◌, ◌/◌}
 use Rattle.flat_memory.specs.MemoryView.{memory_of}
-use Rattle.flat_memory.specs.Stacked.{AreMapped, ArePages}
 use Rattle.flat_memory.proofs.ImageLaws.{range-loaded, range-pages}
 use Rattle.flat_memory.proofs.loading.load_load.Goals as goal
 

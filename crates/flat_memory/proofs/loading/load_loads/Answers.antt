@@ -1,4 +1,4 @@
-use Rattle.std.proofs.Common.{◌≡◌, arith}
+use Rattle.std.proofs.Common.{arith}
 use Rattle.flat_memory.specs.MemoryView.{memory_of}
 use Rattle.flat_memory.proofs.ImageLaws.{loaded-next, loaded-none, pages-of-load}
 use Rattle.flat_memory.proofs.loading.load_loads.Goals as goal

@@ -1,5 +1,4 @@
 use Rattle.std.proofs.Common.{◌≡◌, arith, ap, sym, ◌∙◌, Some, None}
-use Rattle.std.specs.Prelude.{is_some}
 use Rattle.unix_model.specs.Memory.{Memory}
 use Rattle.unix_model.specs.Tables.{at}
 use Rattle.flat_memory.specs.MemoryView.{memory_of}

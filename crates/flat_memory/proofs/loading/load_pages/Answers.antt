@@ -1,4 +1,4 @@
-use Rattle.std.proofs.Common.{◌≡◌, arith}
+use Rattle.std.proofs.Common.{arith}
 use Rattle.flat_memory.specs.MemoryView.{memory_of}
 use Rattle.flat_memory.proofs.ImageLaws.{keeps-same, keeps-then, mapped-all, mapped-next, mapped-none, pages-at}
 use Rattle.flat_memory.proofs.loading.load_pages.Goals as goal

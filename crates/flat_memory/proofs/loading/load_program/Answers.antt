@@ -1,5 +1,4 @@
-use Rattle.std.proofs.Common.{◌≡◌, ◌∙◌, arith, ap, IfNone, ◌<◌}
-use Rattle.unix_model.specs.Memory.{mapped_pages}
+use Rattle.std.proofs.Common.{◌∙◌, arith}
 use Rattle.flat_memory.specs.StringsView.{strings_of}
 use Rattle.flat_memory.proofs.ImageLaws.{image-by}
 use Rattle.flat_memory.proofs.StackLaws.{strings-few}

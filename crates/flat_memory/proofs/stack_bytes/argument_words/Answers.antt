@@ -1,8 +1,4 @@
-use Rattle.std.proofs.Common.{arith, ap, sym, ◌∙◌, ◌≡◌, ◌≤◌, length, ◌++◌}
-use Rattle.std.specs.Prelude.{replicate}
-use Rattle.std.specs.Int.{to_le_bytes, w32}
-use Rattle.unix_model.specs.Loading.{address_words, argument_words, string_bytes}
-use Rattle.flat_memory.specs.StringsView.{strings_of}
+use Rattle.std.proofs.Common.{arith, ◌∙◌}
 use Rattle.flat_memory.proofs.StackLaws.{strings-few, words-whole}
 use Rattle.flat_memory.proofs.stack_bytes.argument_words.Goals as goal
 

@@ -1,6 +1,6 @@
-use Rattle.std.proofs.Common.{arith, ap, sym, ◌∙◌, ◌≡◌, ◌≤◌, ◌-◌, ◌+◌, ◌*◌, length, ◌++◌, ◌/◌, List, length-append, ℕ}
+use Rattle.std.proofs.Common.{arith, ap, ◌∙◌, ◌≡◌, ◌≤◌, ◌-◌, ◌*◌, length, ◌++◌, ◌/◌, length-append, ℕ}
 use Rattle.unix_model.specs.Limits.{stack_end}
-use Rattle.unix_model.specs.Loading.{argument_words, stack_bytes, stack_pointer, string_bytes, strings_start}
+use Rattle.unix_model.specs.Loading.{argument_words, stack_pointer, strings_start}
 use Rattle.flat_memory.specs.StringsView.{strings_of}
 use Rattle.flat_memory.proofs.StackLaws.{strings-few, length-words, bytes-whole}
 use Rattle.flat_memory.proofs.stack_bytes.build_stack.Goals as goal

@@ -1,4 +1,4 @@
-use Rattle.std.proofs.Common.{◌≡◌, ◌≤◌}
+use Rattle.std.proofs.Common.{◌≡◌}
 use Rattle.unix_model.specs.Memory.{mapped_pages, with_zero_pages}
 use Rattle.flat_memory.specs.MemoryView.{memory_of}
 use Rattle.flat_memory.proofs.memory.Memory.mapped_with.Given as goal

@@ -1,4 +1,3 @@
-use Rattle.std.proofs.Common.{◌≡◌, ℕ, ap}
 use Rattle.flat_memory.specs.PagesView.{table_of}
 use Rattle.flat_memory.proofs.PageLaws.{regions-copied}
 use Rattle.flat_memory.proofs.pages.Pages.copy.Goals as goal

@@ -1,4 +1,4 @@
-use Rattle.std.proofs.Common.{arith, sym, Some, None, ◌≡◌, ap, ◌∙◌, ◌/◌, ◌%◌, ◌^◌, ◌≤◌}
+use Rattle.std.proofs.Common.{arith, sym, Some, ap, ◌∙◌, ◌/◌, ◌%◌}
 use Rattle.std.specs.Prelude.{option_map}
 use Rattle.unix_model.specs.Memory.{page_with_byte}
 use Rattle.unix_model.specs.Tables.{with_at, at}

@@ -1,4 +1,4 @@
-use Rattle.std.proofs.Common.{arith, Some, None, ◌≡◌, ap, ◌∙◌, refl, sym}
+use Rattle.std.proofs.Common.{arith, Some, ap, ◌∙◌, sym}
 use Rattle.std.specs.Prelude.{option_map}
 use Rattle.unix_model.specs.Memory as model
 use Rattle.unix_model.specs.Memory.{page_with_byte}

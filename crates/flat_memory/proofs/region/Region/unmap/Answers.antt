@@ -1,4 +1,4 @@
-use Rattle.std.proofs.Common.{arith, Some, None}
+use Rattle.std.proofs.Common.{arith, None}
 use Rattle.flat_memory.specs.PageView.{page_of}
 use Rattle.flat_memory.specs.RegionView.{region_of}
 use Rattle.flat_memory.proofs.PlaceLaws.{table-set}

@@ -1,7 +1,4 @@
-use Rattle.std.proofs.Common.{◌≡◌, ℕ, Option, get_or, None}
 use Rattle.std.proofs.Math.Path.{fun_ext}
-use Rattle.std.specs.Prelude.{option_map}
-use Rattle.unix_model.specs.Memory as model
 use Rattle.flat_memory.specs.PageView.{page_of}
 use Rattle.flat_memory.specs.RegionView.{region_of}
 use Rattle.flat_memory.proofs.PlaceLaws.{table-copied}
