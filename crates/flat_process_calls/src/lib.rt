@@ -4,11 +4,15 @@
 
 mod children;
 mod ending;
+mod executing;
+mod find_program;
 mod forking;
+mod programs;
 mod signals;
 mod waiting;
 
 pub use ending::{exit, exit_step};
+pub use executing::exec;
 pub use forking::fork;
 pub use signals::kill;
 pub use waiting::{wait, waitpid};
