@@ -1,7 +1,7 @@
 -- Where the line of brk ends.
-use Rattle.std.proofs.Common.{◌≡◌, ℕ, ◌+◌, ◌<◌, ◌≤◌, Option, Some, Err, true, false, arith, refl, ap, ◌∙◌}
+use Rattle.std.proofs.Common.{◌≡◌, ℕ, ◌+◌, ◌<◌, Option, Some, Err, true, false, arith, refl, ap, ◌∙◌}
 use Rattle.std.proofs.lemmas.Bool.Decides.{nat_tests}
-use Rattle.std.specs.Prelude.{nat_le, nat_lt, ◌==◌}
+use Rattle.std.specs.Prelude.{nat_lt, ◌==◌}
 use Rattle.unix_model.specs.declared.calls.Errno.TheVariants.{Enomem}
 use Rattle.unix_model.specs.Enter.{answers, brk_enters, with_moved_break}
 use Rattle.unix_model.specs.Limits.{loads_end}

@@ -1,5 +1,5 @@
 -- One string of exec.
-use Rattle.std.specs.Prelude.{ℕ, ◌+◌, List, length, Result, Ok, Err, nat_lt}
+use Rattle.std.specs.Prelude.{ℕ, ◌+◌, List, length, Result, Ok, nat_lt}
 use Rattle.unix_model.specs.declared.calls.Errno.{Errno}
 use Rattle.unix_model.specs.declared.calls.Errno.TheVariants.{E2big}
 use Rattle.unix_model.specs.Enter.{text_at, with_nul}

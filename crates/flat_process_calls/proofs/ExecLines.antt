@@ -1,13 +1,11 @@
 -- Where the line of exec ends.
-use Rattle.std.proofs.Common.{◌≡◌, ℕ, ◌+◌, ◌≤◌, ◌<◌, Bool, true, false, List, Option, Some, None, Result, Ok, Err, arith, refl, ap, sym, ◌∙◌}
+use Rattle.std.proofs.Common.{◌≡◌, ℕ, ◌+◌, ◌<◌, true, false, List, Option, Some, None, Result, Ok, Err, arith, refl, ap, ◌∙◌}
 use Rattle.std.proofs.lemmas.Bool.Decides.{nat_tests}
-use Rattle.std.specs.Prelude.{nat_le, if◌then◌else◌}
 use Rattle.unix_model.specs.declared.calls.Errno.{Errno}
 use Rattle.unix_model.specs.declared.calls.Errno.TheVariants.{Eacces, Enoent, Enomem}
-use Rattle.unix_model.specs.declared.elf.ElfFault.{ElfFault}
-use Rattle.unix_model.specs.Effect.{Line, Effect, Goes}
+use Rattle.unix_model.specs.Effect.{Line, Goes}
 use Rattle.unix_model.specs.Elf.{LoadPlan, plan_of}
-use Rattle.unix_model.specs.Files.{Files, Inode, file_bytes}
+use Rattle.unix_model.specs.Files.{Files, file_bytes}
 use Rattle.unix_model.specs.Loading.{image}
 use Rattle.unix_model.specs.Memory.{mapped_pages}
 use Rattle.unix_model.specs.Paths.{Spot, walked}
@@ -17,7 +15,7 @@ use Rattle.unix_model.specs.Refusals.{◌>>=◌, ◌>>◌, refuse◌unless◌, r
 use Rattle.unix_model.specs.Room.{has_room, promised, process_pages}
 use Rattle.unix_model.specs.State.{Unix, with_process}
 use Rattle.unix_model.specs.Tables.{at, with_at}
-use Rattle.unix_model.proofs.RoomLaws.{promised-process, slots-have, slots_promise}
+use Rattle.unix_model.proofs.RoomLaws.{promised-process, slots-have}
 use Rattle.unix_model.proofs.TableLaws.{at-with_at}
 use Rattle.flat_process_calls.specs.Programs.{PlannedFile, program_at}
 

@@ -1,5 +1,5 @@
 -- Where the lines of calls on processes end, by their tests.
-use Rattle.std.proofs.Common.{◌≡◌, ◌≢◌, ℕ, ◌+◌, ◌^◌, Bool, true, false, Option, Some, None, Ok, Err, refl, ap, sym, ◌∙◌}
+use Rattle.std.proofs.Common.{◌≡◌, ℕ, ◌^◌, Bool, true, false, Option, Some, None, Err, refl, ap, sym}
 use Rattle.std.specs.Prelude.{nat_le, if◌then◌else◌}
 use Rattle.unix_model.specs.declared.calls.Errno.TheVariants.{Eagain, Echild, Enomem}
 use Rattle.unix_model.specs.Effect.{replies}
@@ -7,7 +7,7 @@ use Rattle.unix_model.specs.Process.{Process, Exiting, answered, in_phase}
 use Rattle.unix_model.specs.ProcessCalls.{EndedChild, fork_line, forked, is_ending, is_waited, least_ended, waitpid_line, waits_for, with_killed}
 use Rattle.unix_model.specs.Room.{has_room}
 use Rattle.unix_model.specs.State.{Unix, free_slot, with_phase, with_process}
-use Rattle.unix_model.specs.Tables.{at, any_below, with_at}
+use Rattle.unix_model.specs.Tables.{at, any_below}
 use Rattle.unix_model.proofs.TableLaws.{with_at-over, with_at-twice}
 
 pub fork-full : (unix : Unix) (slot : ℕ) (process : Process) → free_slot unix.processes ≡ None → fork_line unix slot process ≡ Err Eagain

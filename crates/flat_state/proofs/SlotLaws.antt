@@ -1,11 +1,10 @@
 -- A list of optional things as a table.
-use Rattle.std.proofs.Common.{◌≡◌, ◌≢◌, ℕ, zero, suc, ◌+◌, ◌<◌, ◌≤◌, ◌⊎◌, Bool, true, false, Option, None, List, [], ◌∷◌, ◌++◌, length, get_or, set, arith, refl, ap, inl, inr, get_or-set_same, get_or-set_other}
+use Rattle.std.proofs.Common.{◌≡◌, ℕ, ◌+◌, ◌≤◌, Option, None, arith, refl, inl, inr}
 use Rattle.std.proofs.Math.Path.{fun_ext}
 use Rattle.std.proofs.lemmas.Bool.{cases_Bool, le-ltb, lt-ltb, ltb-false}
 use Rattle.std.proofs.lemmas.Bool.Decides.{eqb_tells, nat_tests}
-use Rattle.std.specs.List.{list_any}
-use Rattle.std.specs.Prelude.{◌||◌, map, option_map, ◌==◌, nat_lt, if◌then◌else◌}
-use Rattle.unix_model.specs.Tables.{at, with_at, nothing}
+use Rattle.std.specs.Prelude.{option_map, ◌==◌, nat_lt, if◌then◌else◌}
+use Rattle.unix_model.specs.Tables.{at, with_at}
 
 -- the table with what it has below a number changed by f
 unfoldable pub changed_below : {X : Type 0} → (X → X) → (ℕ → Option X) → ℕ → ℕ → Option X

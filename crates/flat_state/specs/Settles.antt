@@ -1,5 +1,5 @@
 -- What the line of a call promises.
-use Rattle.std.specs.Prelude.{◌≡◌, ℕ, [], List}
+use Rattle.std.specs.Prelude.{◌≡◌, ℕ, []}
 use Rattle.unix_model.specs.declared.calls.Turned.{Turned}
 use Rattle.unix_model.specs.Effect.{Line, settled}
 use Rattle.unix_model.specs.Process.{Process}

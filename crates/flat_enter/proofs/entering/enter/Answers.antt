@@ -1,5 +1,4 @@
-use Rattle.std.proofs.Common.{◌≡◌, ◌∙◌, sym, subst, Err}
-use Rattle.std.specs.Prelude.{Result}
+use Rattle.std.proofs.Common.{◌∙◌, sym, subst, Err}
 use Rattle.unix_model.specs.Enter.{call_enters}
 use Rattle.unix_model.specs.State.{with_process}
 use Rattle.flat_state.specs.ProcessView.{process_of}

@@ -1,4 +1,4 @@
-use Rattle.std.proofs.Common.{arith, ◌∙◌, ◌≡◌, ◌≢◌, ◌+◌, ◌-◌, ◌*◌, ◌++◌, ℕ, List, length, Some, None, ap, sym}
+use Rattle.std.proofs.Common.{arith, ◌∙◌, ◌≡◌, ◌+◌, ◌-◌, ◌*◌, ◌++◌, ℕ, List, length, Some, None, ap, sym}
 use Rattle.unix_model.specs.Enter.{strings_at}
 use Rattle.unix_model.specs.Memory.{Memory, word_at}
 use Rattle.flat_memory.specs.MemoryView.{memory_of}

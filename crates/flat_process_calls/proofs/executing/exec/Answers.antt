@@ -3,11 +3,9 @@ use Rattle.unix_model.specs.declared.calls.Turned.TheVariants.{Worked}
 use Rattle.unix_model.specs.Effect.{Line}
 use Rattle.unix_model.specs.Process as model
 use Rattle.unix_model.specs.ProcessCalls.{with_loaded, with_program}
-use Rattle.unix_model.specs.Loading.{image}
 use Rattle.unix_model.specs.Memory.{mapped_pages}
 use Rattle.unix_model.specs.Room.{has_room, promised}
 use Rattle.unix_model.specs.State.{Unix, with_process}
-use Rattle.unix_model.specs.Tables.{at, with_at}
 use Rattle.unix_model.proofs.RoomLaws.{pages-few}
 use Rattle.unix_model.proofs.TableLaws.{with_at-twice}
 use Rattle.flat_files.specs.FilesView.{files_of}
@@ -15,9 +13,8 @@ use Rattle.flat_memory.specs.StringsView.{strings_of}
 use Rattle.flat_state.specs.ProcessView.{process_of}
 use Rattle.flat_state.specs.Settles.{Settles}
 use Rattle.flat_state.specs.StateView.{unix_of}
-use Rattle.flat_process_calls.specs.Programs.{IsLoading, PlannedFile}
+use Rattle.flat_process_calls.specs.Programs.{IsLoading}
 use Rattle.flat_process_calls.specs.declared.programs.Loading.{Loading}
-use Rattle.flat_process_calls.specs.declared.programs.Loading.TheVariants.{Refused, Crowded, Loaded}
 use Rattle.flat_process_calls.proofs.ExecLines.{exec-crowded, exec-done, exec-refused, loaded-crowded, promised-loaded}
 use Rattle.flat_process_calls.proofs.executing.exec.Goals as goal
 

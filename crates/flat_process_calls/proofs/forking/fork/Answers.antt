@@ -1,4 +1,4 @@
-use Rattle.std.proofs.Common.{◌≡◌, ◌≢◌, ◌^◌, ◌+◌, ◌<◌, ℕ, Bool, arith, ap, sym, subst, ◌∙◌, Option, Some, None, Err, false, true, refl}
+use Rattle.std.proofs.Common.{◌≡◌, ◌^◌, ◌+◌, ℕ, arith, ap, sym, subst, ◌∙◌, Option, Some, None, false, true, refl}
 use Rattle.std.specs.Prelude.{nat_le, not, is_none, ◌&&◌, ◌==◌}
 use Rattle.std.proofs.lemmas.Bool.Decides.{nat_tests}
 use Rattle.unix_model.specs.Effect.{Line}

@@ -3,7 +3,7 @@ use Rattle.std.specs.Prelude.{option_map}
 use Rattle.unix_model.specs.Room.{process_pages}
 use Rattle.unix_model.specs.Tables.{at}
 use Rattle.unix_model.specs.Turn.{ran}
-use Rattle.unix_model.proofs.RoomLaws.{slots_promise, slots-put, slots-few, pages-few}
+use Rattle.unix_model.proofs.RoomLaws.{slots_promise, slots-put}
 use Rattle.unix_model.proofs.TableLaws.{at-with_at}
 use Rattle.flat_state.specs.SlotTableView.{slot_table_of}
 use Rattle.flat_state.proofs.slots.Slots.run.Goals as goal

@@ -1,4 +1,4 @@
-use Rattle.std.proofs.Common.{◌≡◌, ◌+◌, ℕ, arith, ap, sym, ◌∙◌, Some}
+use Rattle.std.proofs.Common.{◌+◌, ℕ, arith, ap, sym, ◌∙◌, Some}
 use Rattle.std.specs.Prelude.{nat_le}
 use Rattle.unix_model.proofs.RoomLaws.{pages-few, promised-put, room-by}
 use Rattle.flat_state.specs.StateView.{unix_of}
