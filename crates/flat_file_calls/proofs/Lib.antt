@@ -1,0 +1,4 @@
+pub mod DescriptorLaws
+pub mod Settling
+pub mod FileLines
+pub mod LengthLaws
