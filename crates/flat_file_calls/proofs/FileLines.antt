@@ -1,11 +1,11 @@
 -- Where the lines of calls on files end, by their tests.
-use Rattle.std.proofs.Common.{◌≡◌, ℕ, ◌+◌, ◌-◌, ◌*◌, ◌/◌, List, [], take, drop, length, Bool, true, false, Option, Some, None, Ok, Err, refl, ap, sym}
+use Rattle.std.proofs.Common.{◌≡◌, ℕ, ◌+◌, ◌-◌, ◌*◌, ◌/◌, List, [], take, drop, length, Bool, true, false, Option, Some, None, Ok, Err, refl, ap, ap₂, sym}
 use Rattle.std.specs.Prelude.{◌&&◌, ◌++◌, nat_le, nat_lt, ◌==◌}
 use Rattle.std.specs.Int.{to_le_bytes, w32}
 use Rattle.unix_model.specs.declared.calls.Errno.TheVariants.{Efbig, Enospc, Enomem, Enfile, Emfile}
 use Rattle.unix_model.specs.Effect.{replies, replies_with, Waits}
 use Rattle.unix_model.specs.FileCalls.{fstat_line, ftruncate_line, getdents_line, kind_of, listed_bytes, looked_at, pipe_line, reads_from, with_contents, with_descriptors, with_offset, with_pipe, with_resized, with_written, write_file, write_pipe, write_place}
-use Rattle.unix_model.specs.Files.{Inode, File, Pipe, file_bytes, free_description, free_inode, has_reader, has_writer, inode_length, is_directory, links, next_description, places_of}
+use Rattle.unix_model.specs.Files.{Entry, Inode, File, Directory, Pipe, file_bytes, free_description, free_inode, has_reader, has_writer, inode_length, is_directory, links, next_description, places_of}
 use Rattle.unix_model.specs.Limits.{most_file_bytes, pipe_bytes, place_bytes}
 use Rattle.unix_model.specs.Process.{Process, lowest_closed, next_closed}
 use Rattle.unix_model.specs.Room.{has_room}
@@ -28,6 +28,13 @@ module _ (unix : Unix) (slot number : ℕ) (process : Process) (file : Opened) (
   pub truncate-done : (size : ℕ) (bytes : List ℕ) → opened_inode unix file ≡ Some (File bytes) → nat_lt most_file_bytes size ≡ false
       → has_room (with_resized unix file bytes size) ≡ true → ftruncate_line unix slot process number size ≡ replies (with_resized unix file bytes size) slot process 0
   truncate-done size bytes found small room = rw (there, found, small, room) refl
+
+  pub getdents-done : (address count offset parent : ℕ) (bytes : List ℕ) (places : List (Option Entry)) → opened_inode unix file ≡ Some (Directory parent places)
+      → bytes ≡ listed_bytes (count / 32) (drop (file.description.offset / 32) places)
+      → offset ≡ file.description.offset + 32 * looked_at (count / 32) (drop (file.description.offset / 32) places)
+      → getdents_line unix slot process number address count ≡ replies_with (with_files unix (with_offset unix.files file offset)) slot process (length bytes) address bytes
+  getdents-done address count offset parent bytes places found bytes_are offset_is =
+      rw (there, found) (ap₂ (λ (bytes : List ℕ) (offset : ℕ). replies_with (with_files unix (with_offset unix.files file offset)) slot process (length bytes) address bytes) (sym bytes_are) (sym offset_is))
 
 -- a file is read
 pub read-done : (unix : Unix) (slot : ℕ) (process : Process) (input : List ℕ) (file : Opened) (address count : ℕ) (bytes piece : List ℕ) → piece ≡ take count (drop file.description.offset bytes)

@@ -2,3 +2,4 @@ pub mod DescriptorLaws
 pub mod Settling
 pub mod FileLines
 pub mod LengthLaws
+pub mod ListingLaws

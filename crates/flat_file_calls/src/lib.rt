@@ -3,13 +3,15 @@
 
 mod descriptors;
 mod lengths;
+mod listing;
 mod offsets;
+mod pipe_ends;
 mod reads;
 mod stored;
 mod writes;
 
 pub use descriptors::{close, dup, dup2, with_descriptor};
 pub use lengths::ftruncate;
-
+pub use listing::getdents;
 pub use offsets::{fstat, lseek};
-
+pub use pipe_ends::pipe;
