@@ -1,12 +1,12 @@
 -- Descriptors that are closed, and descriptions that are freed with the last of them.
-use Rattle.std.proofs.Common.{◌≡◌, ℕ, zero, suc, ◌<◌, ◌≤◌, Bool, true, false, Option, Some, None, List, [], ◌∷◌, length, get_or, set, set-set, arith, refl, ap, sym, ◌∙◌, inl, inr}
+use Rattle.std.proofs.Common.{◌≡◌, ℕ, zero, suc, ◌<◌, ◌≤◌, Bool, true, false, Option, Some, None, List, [], ◌∷◌, length, set, set-set, arith, refl, ap, sym, ◌∙◌, inl, inr}
 use Rattle.std.proofs.Math.Path.{fun_ext}
 use Rattle.std.proofs.lemmas.Bool.{cases_Bool}
 use Rattle.std.proofs.lemmas.Bool.Decides.{eqb_tells}
-use Rattle.std.specs.Prelude.{◌||◌, ◌==◌, if◌then◌else◌}
+use Rattle.std.specs.Prelude.{◌||◌, ◌==◌}
 use Rattle.unix_model.specs.Effect.{replies}
 use Rattle.unix_model.specs.FileCalls.{dup2_line}
-use Rattle.unix_model.specs.Files.{Files, with_description_freed}
+use Rattle.unix_model.specs.Files.{with_description_freed}
 use Rattle.unix_model.specs.Process.{Process, descriptor, with_descriptor, without_descriptor}
 use Rattle.unix_model.specs.State.{Unix, Opened, opened, has_descriptor, process_names, with_description_released, with_descriptor_closed, with_process}
 use Rattle.unix_model.specs.Tables.{at, with_at, any_below}

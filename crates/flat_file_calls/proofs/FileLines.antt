@@ -1,12 +1,12 @@
 -- Where the lines of calls on files end, by their tests.
-use Rattle.std.proofs.Common.{◌≡◌, ℕ, ◌+◌, ◌-◌, ◌*◌, ◌/◌, List, [], take, drop, length, Bool, true, false, Option, Some, None, Ok, Err, refl, ap, ap₂, sym}
-use Rattle.std.specs.Prelude.{◌&&◌, ◌++◌, nat_le, nat_lt, ◌==◌}
+use Rattle.std.proofs.Common.{◌≡◌, ℕ, ◌+◌, ◌-◌, ◌*◌, ◌/◌, List, take, drop, length, true, false, Option, Some, Err, refl, ap, ap₂, sym}
+use Rattle.std.specs.Prelude.{◌++◌, nat_le, nat_lt}
 use Rattle.std.specs.Int.{to_le_bytes, w32}
-use Rattle.unix_model.specs.declared.calls.Errno.TheVariants.{Efbig, Enospc, Enomem, Enfile, Emfile}
-use Rattle.unix_model.specs.Effect.{replies, replies_with, Waits}
-use Rattle.unix_model.specs.FileCalls.{fstat_line, ftruncate_line, getdents_line, kind_of, listed_bytes, looked_at, pipe_line, reads_from, with_contents, with_descriptors, with_offset, with_pipe, with_resized, with_written, write_file, write_pipe, write_place}
-use Rattle.unix_model.specs.Files.{Entry, Inode, File, Directory, Pipe, file_bytes, free_description, free_inode, has_reader, has_writer, inode_length, is_directory, links, next_description, places_of}
-use Rattle.unix_model.specs.Limits.{most_file_bytes, pipe_bytes, place_bytes}
+use Rattle.unix_model.specs.declared.calls.Errno.TheVariants.{Efbig, Enospc, Enomem}
+use Rattle.unix_model.specs.Effect.{replies, replies_with}
+use Rattle.unix_model.specs.FileCalls.{fstat_line, ftruncate_line, getdents_line, kind_of, listed_bytes, looked_at, pipe_line, reads_from, with_descriptors, with_offset, with_pipe, with_resized, with_written, write_file, write_place}
+use Rattle.unix_model.specs.Files.{Entry, File, Directory, free_description, free_inode, inode_length, links, next_description}
+use Rattle.unix_model.specs.Limits.{most_file_bytes}
 use Rattle.unix_model.specs.Process.{Process, lowest_closed, next_closed}
 use Rattle.unix_model.specs.Room.{has_room}
 use Rattle.unix_model.specs.State.{Unix, Opened, opened, opened_inode, with_files}

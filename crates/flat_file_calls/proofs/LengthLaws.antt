@@ -1,5 +1,5 @@
 -- How long files are after a change.
-use Rattle.std.proofs.Common.{◌≡◌, ℕ, ◌+◌, ◌-◌, List, length, arith, length-append, length-drop, length-take, max}
+use Rattle.std.proofs.Common.{◌≡◌, ℕ, ◌+◌, List, length, arith, length-append, length-drop, length-take, max}
 use Rattle.std.proofs.lemmas.List.{length-replicate}
 use Rattle.unix_model.specs.FileCalls.{overwritten, resized}
 

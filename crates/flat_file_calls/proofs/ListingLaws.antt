@@ -1,7 +1,6 @@
 -- The places of a directory that are listed, one place at a time.
-use Rattle.std.proofs.Common.{◌≡◌, ℕ, zero, suc, ◌+◌, ◌-◌, ◌<◌, ◌≤◌, Option, Some, None, List, [], ◌∷◌, ◌++◌, refl, ap, arith, drop, take, length, replicate}
+use Rattle.std.proofs.Common.{◌≡◌, ℕ, zero, suc, ◌+◌, ◌-◌, ◌<◌, ◌≤◌, Option, Some, None, List, [], ◌∷◌, ◌++◌, refl, arith, drop, take, length, replicate}
 use Rattle.std.proofs.lemmas.List.{take_all}
-use Rattle.std.specs.Prelude.{map}
 use Rattle.unix_model.specs.FileCalls.{entry_bytes, listed_bytes, looked_at}
 use Rattle.unix_model.specs.Files.{Entry}
 

@@ -1,12 +1,11 @@
 -- From where a line ends to what its call leaves.
-use Rattle.std.proofs.Common.{◌≡◌, ℕ, ◌+◌, length, [], List, Option, Some, Ok, refl, ap, sym, subst, ◌∙◌}
-use Rattle.unix_model.specs.declared.calls.Errno.{Errno}
+use Rattle.std.proofs.Common.{◌≡◌, ℕ, ◌+◌, length, List, Option, Some, Ok, ap, sym, subst, ◌∙◌}
 use Rattle.unix_model.specs.declared.calls.Turned.{Turned}
 use Rattle.unix_model.specs.declared.calls.Turned.TheVariants.{Worked}
-use Rattle.unix_model.specs.Effect.{Line, Goes, settled}
+use Rattle.unix_model.specs.Effect.{Line, Goes}
 use Rattle.unix_model.specs.FileCalls.{overwritten, with_contents, with_offset, with_written}
 use Rattle.unix_model.specs.Files.{Files, File}
-use Rattle.unix_model.specs.Process.{Process, Phase, answered, in_phase}
+use Rattle.unix_model.specs.Process.{Process, answered, in_phase}
 use Rattle.unix_model.specs.State.{Unix, Opened, with_files, with_phase, with_process}
 use Rattle.unix_model.proofs.TableLaws.{with_at-twice}
 use Rattle.flat_state.specs.Settles.{Settles}

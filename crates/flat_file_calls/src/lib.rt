@@ -15,3 +15,5 @@ pub use lengths::ftruncate;
 pub use listing::getdents;
 pub use offsets::{fstat, lseek};
 pub use pipe_ends::pipe;
+pub use reads::read_stored;
+pub use writes::{write_file, write_pipe};

@@ -18,7 +18,7 @@ use unix_model::{Errno, Turned};
 
 /// The line of read(descriptor, address, count) of at least one byte, on anything but the console.
 #[tactic(auto, using(unix_model::proofs::TableLaws::tables_over))]
-pub(crate) fn read_stored(
+pub fn read_stored(
     state: &mut State,
     alloc: Global,
     slot: u8,
@@ -78,7 +78,8 @@ fn read_pipe(
     }
     let piece = pipe.front(alloc, count)?;
     let rest = pipe.without_front(alloc, count)?;
-    state.files
+    state
+        .files
         .set_inode(file.description.inode, Inode::Pipe(rest));
     Ok(state.reply_with(
         slot,

@@ -40,7 +40,12 @@ fn take_pipe(files: &mut Files, alloc: Global, inode: u16) -> Pipe
 
 /// Cuts a file to a length, or fills it with zeros up to it.
 #[tactic(auto, using(unix_model::proofs::TableLaws::tables))]
-pub(crate) fn resize(files: &mut Files, alloc: Global, inode: u16, size: u32) -> Result<(), AllocError>
+pub(crate) fn resize(
+    files: &mut Files,
+    alloc: Global,
+    inode: u16,
+    size: u32,
+) -> Result<(), AllocError>
     requires inside { inode < 1024 }
     requires size { size ≤ 4194304 }
     ensures { OnOk result (files_of files.new ≡ model.with_inode (files_of files.old) inode (model.File (resized (stored_bytes (at (files_of files.old).inodes inode)) size))) }
@@ -70,7 +75,12 @@ pub(crate) fn overwrite(
 
 /// Adds bytes to a pipe.
 #[tactic(auto, using(unix_model::proofs::TableLaws::tables))]
-pub(crate) fn append(files: &mut Files, alloc: Global, inode: u16, written: &[u8]) -> Result<(), AllocError>
+pub(crate) fn append(
+    files: &mut Files,
+    alloc: Global,
+    inode: u16,
+    written: &[u8],
+) -> Result<(), AllocError>
     requires inside { inode < 1024 }
     requires room { length (piped_bytes (at (files_of files.old).inodes inode)) + length written.now ≤ 4096 }
     ensures { OnOk result (files_of files.new ≡ model.with_inode (files_of files.old) inode (model.Pipe (piped_bytes (at (files_of files.old).inodes inode) ++ written.now))) }

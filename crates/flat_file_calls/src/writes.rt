@@ -30,7 +30,7 @@ fn write_place(description: Description, size: u32) -> u32
 }
 
 /// The line of write, of at least one byte, on a file.
-pub(crate) fn write_file(
+pub fn write_file(
     state: &mut State,
     alloc: Global,
     slot: u8,
@@ -52,7 +52,11 @@ pub(crate) fn write_file(
     }
     let part = front(written, 4194304 - place);
     let end = place + part.len() as u32;
-    if !state.fits(&process, end.max(length).div_ceil(4096), length.div_ceil(4096)) {
+    if !state.fits(
+        &process,
+        end.max(length).div_ceil(4096),
+        length.div_ceil(4096),
+    ) {
         return Ok(state.refuse(slot, process, Errno::Enospc));
     }
     overwrite(&mut state.files, alloc, inode, place, part)?;
@@ -62,7 +66,7 @@ pub(crate) fn write_file(
 
 /// The line of write, of at least one byte, on a pipe.
 #[tactic(auto, using(unix_model::proofs::TableLaws::tables_over))]
-pub(crate) fn write_pipe(
+pub fn write_pipe(
     state: &mut State,
     alloc: Global,
     slot: u8,

@@ -1,4 +1,4 @@
-use Rattle.std.proofs.Common.{◌≡◌, ap, ◌∙◌}
+use Rattle.std.proofs.Common.{ap, ◌∙◌}
 use Rattle.unix_model.specs.Process as model
 use Rattle.unix_model.specs.State.{Unix, with_descriptor_closed, with_phase, with_process}
 use Rattle.flat_state.specs.ProcessView.{process_of}

@@ -1,4 +1,4 @@
-use Rattle.std.proofs.Common.{◌≡◌, ap, sym, ◌∙◌}
+use Rattle.std.proofs.Common.{ap, sym, ◌∙◌}
 use Rattle.unix_model.specs.State.{Unix, with_process}
 use Rattle.flat_state.specs.ProcessView.{process_of}
 use Rattle.flat_state.specs.StateView.{unix_of}

@@ -1,18 +1,16 @@
-use Rattle.std.proofs.Common.{◌≡◌, ◌+◌, Some, Option, ℕ, arith, refl, ap, sym, ◌∙◌, List, false, true}
+use Rattle.std.proofs.Common.{◌≡◌, ◌+◌, Some, ℕ, arith, refl, ap, sym, ◌∙◌, List, false, true}
 use Rattle.std.proofs.lemmas.Bool.Decides.{nat_tests}
 use Rattle.std.specs.Prelude.{nat_lt}
 use Rattle.unix_model.specs.declared.calls.Errno.TheVariants.{Efbig, Enospc}
-use Rattle.unix_model.specs.Effect.{Line}
 use Rattle.std.proofs.Common.{Err}
 use Rattle.unix_model.specs.FileCalls.{ftruncate_line, resized, with_contents, with_resized}
-use Rattle.unix_model.specs.Files.{Files, Inode, File, inode_pages}
+use Rattle.unix_model.specs.Files.{File, inode_pages}
 use Rattle.unix_model.specs.Limits.{most_file_bytes}
 use Rattle.unix_model.specs.Process as model
 use Rattle.unix_model.specs.Room.{has_room, promised}
 use Rattle.unix_model.specs.State.{Unix, Opened, with_files, with_phase, with_process}
-use Rattle.unix_model.specs.Tables.{at, with_at}
+use Rattle.unix_model.specs.Tables.{at}
 use Rattle.unix_model.proofs.RoomLaws.{promised-inode}
-use Rattle.unix_model.proofs.TableLaws.{with_at-twice}
 use Rattle.flat_files.specs.FilesView.{files_of}
 use Rattle.flat_files.specs.OpenedView.{opened_of}
 use Rattle.flat_state.specs.ProcessView.{process_of}

@@ -17,8 +17,14 @@ use Rattle.flat_file_calls.proofs.listing.getdents.Goals as goal
 
 pub overflow_add-offset : goal.overflow_add-offset
 overflow_add-offset c =
-    omega (arith, ap length c.rest.ensures.rest, length-drop (c.in-Some.file.description.offset / 32) c.deref.result.now, ap length c.deref.ensures.value, c.in-Some-Directory.directory.few,
-    c.in_ok-listing-in-Some-Directory.ensures.few)
+    omega (
+      arith,
+      ap length c.rest.ensures.rest,
+      length-drop (c.in-Some.file.description.offset / 32) c.deref.result.now,
+      ap length c.deref.ensures.value,
+      c.in-Some-Directory.directory.few,
+      c.in_ok-listing-in-Some-Directory.ensures.few,
+    )
 
 pub returns : goal.returns
 returns c =

@@ -1,8 +1,7 @@
-use Rattle.std.proofs.Common.{◌≡◌, Some, Option, ℕ, refl, ap, sym, ◌∙◌, List}
+use Rattle.std.proofs.Common.{ℕ, refl, sym, ◌∙◌, List}
 use Rattle.unix_model.specs.FileCalls.{fstat_line}
 use Rattle.unix_model.specs.Process as model
-use Rattle.unix_model.specs.State.{Unix, opened, with_phase, with_process}
-use Rattle.unix_model.proofs.TableLaws.{with_at-twice}
+use Rattle.unix_model.specs.State.{Unix, with_phase, with_process}
 use Rattle.flat_files.specs.OpenedView.{opened_of}
 use Rattle.flat_state.specs.ProcessView.{process_of}
 use Rattle.flat_state.specs.StateView.{unix_of}

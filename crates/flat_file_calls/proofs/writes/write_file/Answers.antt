@@ -7,7 +7,7 @@ use Rattle.unix_model.specs.Files.{File, inode_length, inode_pages}
 use Rattle.unix_model.specs.Limits.{most_file_bytes}
 use Rattle.unix_model.specs.Process as model
 use Rattle.unix_model.specs.Room.{has_room, promised}
-use Rattle.unix_model.specs.State.{Unix, Opened, with_files, with_phase, with_process}
+use Rattle.unix_model.specs.State.{Unix, Opened, with_phase, with_process}
 use Rattle.unix_model.specs.Tables.{at}
 use Rattle.unix_model.proofs.RoomLaws.{promised-inode}
 use Rattle.flat_files.specs.FilesView.{files_of}
