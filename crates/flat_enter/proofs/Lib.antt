@@ -1,0 +1,4 @@
+pub mod TextLaws
+pub mod StringLaws
+pub mod BreakLines
+pub mod EnterLines

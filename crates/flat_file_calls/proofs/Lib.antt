@@ -1,0 +1,5 @@
+pub mod DescriptorLaws
+pub mod Settling
+pub mod FileLines
+pub mod LengthLaws
+pub mod ListingLaws

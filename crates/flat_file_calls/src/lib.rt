@@ -1,0 +1,19 @@
+//! The calls on open files of the plain machine: their effects at the server.
+#![tactic(auto)]
+
+mod descriptors;
+mod lengths;
+mod listing;
+mod offsets;
+mod pipe_ends;
+mod reads;
+mod stored;
+mod writes;
+
+pub use descriptors::{close, dup, dup2, with_descriptor};
+pub use lengths::ftruncate;
+pub use listing::getdents;
+pub use offsets::{fstat, lseek};
+pub use pipe_ends::pipe;
+pub use reads::read_stored;
+pub use writes::{write_file, write_pipe};

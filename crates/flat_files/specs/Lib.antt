@@ -1,0 +1,9 @@
+pub mod EntryView
+pub mod Places
+pub mod InodeView
+pub mod InodesView
+pub mod DescriptionsView
+pub mod FilesView
+pub mod FreeNumber
+pub mod OpenedView
+pub mod SpotView

@@ -1,0 +1,6 @@
+pub mod ProcessView
+pub mod EndedChildView
+pub mod SlotTableView
+pub mod SlotsView
+pub mod StateView
+pub mod Settles
