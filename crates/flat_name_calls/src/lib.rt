@@ -1,6 +1,8 @@
 //! The calls on names of the plain machine: their effects at the server.
 #![tactic(auto)]
 
+mod making;
 mod removing;
 
+pub use making::{made, mkdir};
 pub use removing::{rmdir, unlink};
