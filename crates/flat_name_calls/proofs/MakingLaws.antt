@@ -1,11 +1,11 @@
 -- New names: what they promise, and where the lines that make them end.
-use Rattle.std.proofs.Common.{◌≡◌, ℕ, ◌+◌, ◌<◌, Bool, true, false, Option, Some, None, Ok, Err, List, [], arith, refl, ap, ap₂, sym, ◌∙◌, inl, inr}
+use Rattle.std.proofs.Common.{◌≡◌, ℕ, ◌+◌, ◌<◌, true, false, Option, Some, None, Ok, Err, List, [], arith, refl, ap, sym, ◌∙◌, inl, inr}
 use Rattle.std.proofs.lemmas.Bool.Decides.{eqb_tells}
-use Rattle.std.specs.Prelude.{is_some, Result}
+use Rattle.std.specs.Prelude.{is_some}
 use Rattle.unix_model.specs.declared.calls.Errno.{Errno}
 use Rattle.unix_model.specs.declared.calls.Errno.TheVariants.{Enospc}
 use Rattle.unix_model.specs.Effect.{replies}
-use Rattle.unix_model.specs.Files.{Entry, Files, Inode, Directory, free_inode, inode_pages, is_directory, is_full, parent_of, places_of, with_entry, with_inode, with_name}
+use Rattle.unix_model.specs.Files.{Entry, Inode, Directory, free_inode, inode_pages, is_directory, is_full, parent_of, places_of, with_entry, with_inode}
 use Rattle.unix_model.specs.NameCalls.{link_line, made, mkdir_line, with_link, with_made}
 use Rattle.unix_model.specs.Paths.{Spot, is_slashed, walked}
 use Rattle.unix_model.specs.Process.{Process}
@@ -68,3 +68,12 @@ pub mkdir-done : (unix : Unix) (slot : ℕ) (process : Process) (path : List ℕ
     → made unix spot (Directory spot.directory []) ≡ Ok number
     → mkdir_line unix slot process path ≡ replies (with_made unix spot number (Directory spot.directory [])) slot process 0
 mkdir-done unix slot process path spot number found absent there = rw (found, absent, there) refl
+
+module _ (unix : Unix) (slot : ℕ) (process : Process) (old new : List ℕ) (from to : Spot) (inode : ℕ)
+    (found : walked unix.files old ≡ Ok from) (named : from.inode ≡ Some inode) (plain : is_directory (at unix.files.inodes inode) ≡ false)
+    (there : walked unix.files new ≡ Ok to) (absent : is_some to.inode ≡ false) (slashed : is_slashed new ≡ false) (place : is_full unix.files to.directory ≡ false) where
+  pub link-crowded : has_room (with_link unix to inode) ≡ false → link_line unix slot process old new ≡ Err Enospc
+  link-crowded crowded = rw (found, named, plain, there, absent, slashed, place, crowded) refl
+
+  pub link-done : has_room (with_link unix to inode) ≡ true → link_line unix slot process old new ≡ replies (with_link unix to inode) slot process 0
+  link-done room = rw (found, named, plain, there, absent, slashed, place, room) refl

@@ -1,5 +1,5 @@
 -- Numbers of new inodes.
-use Rattle.std.specs.Prelude.{◌≡◌, ℕ, ◌<◌, false, None}
+use Rattle.std.specs.Prelude.{◌≡◌, ℕ, ◌<◌, false}
 use Rattle.unix_model.specs.Files.{Files, is_full}
 
 -- a number for a new inode, and a place for its name in a directory

@@ -1,8 +1,6 @@
 use Rattle.std.proofs.Common.{◌≡◌, ◌+◌, ℕ, true, false, arith, refl, sym, ◌∙◌}
-use Rattle.unix_model.specs.Files.{Inode}
 use Rattle.unix_model.specs.NameCalls.{with_made}
 use Rattle.unix_model.specs.Paths.{Spot}
-use Rattle.unix_model.specs.Process as model
 use Rattle.unix_model.specs.Room.{has_room, promised}
 use Rattle.unix_model.specs.State.{Unix, with_process}
 use Rattle.flat_files.specs.SpotView.{spot_of}

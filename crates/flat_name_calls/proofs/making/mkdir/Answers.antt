@@ -1,8 +1,8 @@
-use Rattle.std.proofs.Common.{◌≡◌, ℕ, List, [], Option, Ok, Err, false, refl, ap, sym, ◌∙◌}
+use Rattle.std.proofs.Common.{◌≡◌, ℕ, List, [], Option, Err, false, refl, ap, sym, ◌∙◌}
 use Rattle.std.specs.Prelude.{is_some, map}
 use Rattle.unix_model.specs.Files.{Directory, Inode, with_inode, with_name}
-use Rattle.unix_model.specs.NameCalls.{made, mkdir_line, with_made}
-use Rattle.unix_model.specs.Paths.{Spot, walked}
+use Rattle.unix_model.specs.NameCalls.{mkdir_line, with_made}
+use Rattle.unix_model.specs.Paths.{Spot}
 use Rattle.unix_model.specs.Process as model
 use Rattle.unix_model.specs.State.{Unix, with_files, with_phase, with_process}
 use Rattle.flat_files.specs.declared.entry.Entry.{Entry}
