@@ -1,0 +1,3 @@
+-- in reading order
+pub mod SpaceMemory
+pub mod Taking

@@ -1,0 +1,10 @@
+//! Bytes of spaces: a process's memory is read and written across its pages, in the words of flat memory.
+#![tactic(auto)]
+
+mod fault;
+mod read;
+mod write;
+
+pub use fault::CopyFault;
+pub use read::{take_bytes, take_text};
+pub use write::can_write;
