@@ -18,6 +18,7 @@ pub mod ShareLaws
 pub mod ThinLaws
 pub mod RootLaws
 pub mod CallLaws
+pub mod AloneLaws
 pub mod EmptyLaws
 pub mod MaskLaws
 pub mod ExampleLaws

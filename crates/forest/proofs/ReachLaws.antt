@@ -18,12 +18,12 @@ use Rattle.forest.proofs.MapLaws.{node_key}
 use Rattle.forest.proofs.ReleaseLaws.{release_goes_down, unnamed}
 
 -- a number that the test holds of
-record Witness (test : ℕ → Bool) (n : ℕ) : Type 0 where
-  number : ℕ
-  below : number < n
-  holds : test number ≡ true
+pub record Witness (test : ℕ → Bool) (n : ℕ) : Type 0 where
+  pub number : ℕ
+  pub below : number < n
+  pub holds : test number ≡ true
 
-witness : (test : ℕ → Bool) (n : ℕ) → 1 ≤ count_below test n → Witness test n
+pub witness : (test : ℕ → Bool) (n : ℕ) → 1 ≤ count_below test n → Witness test n
 unfolding count_below
 witness test zero h = absurd (omega arith)
 witness test (suc n) h = ⊎_elim
@@ -35,11 +35,11 @@ witness test (suc n) h = ⊎_elim
     (cases_Bool (test n))
 
 -- an object is named by no place, or by some place
-data NamedSomewhere (forest : Forest) (object : Object) : Type 0 where
+pub data NamedSomewhere (forest : Forest) (object : Object) : Type 0 where
   nowhere : NobodyNames forest.keys object → NamedSomewhere forest object
   somewhere : (place : ℕ) → named (at forest.keys place) ≡ Some object → NamedSomewhere forest object
 
-named_somewhere : (forest : Forest) → Sound forest → (object : Object) → NamedSomewhere forest object
+pub named_somewhere : (forest : Forest) → Sound forest → (object : Object) → NamedSomewhere forest object
 unfolding namings
 named_somewhere forest sound object = ⊎_elim
     (λ (none : namings forest object < 1). nowhere (unnamed forest sound object (omega arith)))
@@ -59,7 +59,7 @@ pub nothing_in_hand : (object : Object) → in_hand [] object ≡ 0
 unfolding in_hand
 nothing_in_hand object = refl
 
-root_reached : (forest : Forest) (node : ℕ) → IsSome (forest.owner (NodeObject node)) → NobodyNames forest.keys (NodeObject node) → Reached forest (NodeObject node)
+pub root_reached : (forest : Forest) (node : ℕ) → IsSome (forest.owner (NodeObject node)) → NobodyNames forest.keys (NodeObject node) → Reached forest (NodeObject node)
 root_reached forest node owned nobody = record {
   space = node;
   way = [];
@@ -105,7 +105,7 @@ climb forest sound (suc fuel) place object h high =
     (named_somewhere forest sound (NodeObject (place / 16)))
 
 -- an object that some place names, or a root
-reached_from : (forest : Forest) → Sound forest → (object : Object) → NamedSomewhere forest object → (NobodyNames forest.keys object → Reached forest object) → Reached forest object
+pub reached_from : (forest : Forest) → Sound forest → (object : Object) → NamedSomewhere forest object → (NobodyNames forest.keys object → Reached forest object) → Reached forest object
 reached_from forest sound object (nowhere nobody) root = root nobody
 reached_from forest sound object (somewhere place h) root = climb forest sound 5 place object h (omega arith)
 
@@ -187,7 +187,7 @@ way_top forest hand rooted space is_space digit (next ∷ way) w object ends =
     way_top forest hand rooted space is_space next way w.1 (NodeObject s.node) s.upper_names
 
 -- the number with these digits
-number_of : List ℕ → ℕ
+pub number_of : List ℕ → ℕ
 number_of [] = 0
 number_of (digit ∷ way) = digit + 16 * number_of way
 
@@ -200,7 +200,7 @@ digits-number_of (digit ∷ way) w =
     let rest : (digit + 16 * number_of way) / 16 ≡ number_of way = omega arith in
     rw (first, rest) (ap (λ ds. digit ∷ ds) (digits-number_of way w.1))
 
-five_digits : (way : List ℕ) → IsWay way → length way ≡ 5 → top_digit way < 8 → number_of way < 2 ^ 19
+pub five_digits : (way : List ℕ) → IsWay way → length way ≡ 5 → top_digit way < 8 → number_of way < 2 ^ 19
 unfolding number_of
 five_digits (a ∷ b ∷ c ∷ d ∷ e ∷ []) w five top =
     let a_below = w.0 in let b_below = w.1.0 in let c_below = w.1.1.0 in let d_below = w.1.1.1.0 in omega arith
@@ -211,7 +211,7 @@ five_digits (a ∷ b ∷ c ∷ []) w five top = absurd (omega arith)
 five_digits (a ∷ b ∷ c ∷ d ∷ []) w five top = absurd (omega arith)
 five_digits (a ∷ b ∷ c ∷ d ∷ e ∷ f ∷ way) w five top = absurd (omega arith)
 
-way_is_page : (way : List ℕ) → IsWay way → length way ≡ 5 → page_way (number_of way) ≡ way
+pub way_is_page : (way : List ℕ) → IsWay way → length way ≡ 5 → page_way (number_of way) ≡ way
 unfolding page_way
 way_is_page way w five = rw five at (digits-number_of way w)
 
@@ -220,7 +220,7 @@ numbered page number true h = cc
 numbered page number false h = cc
 
 -- a key that names a page
-page_key : (key : Key) (page : ℕ) → named key ≡ Some (PageObject page) → (key_height key ≡ 0) × (page_number (mapping_of key) ≡ Some page)
+pub page_key : (key : Key) (page : ℕ) → named key ≡ Some (PageObject page) → (key_height key ≡ 0) × (page_number (mapping_of key) ≡ Some page)
 page_key (Page p writable) page h = (refl, numbered p.0 page (p.0 == 0) h)
 page_key (Segment node height) page h = absurd (let contra : Some (NodeObject node.0) ≡ Some (PageObject page) = h in cc)
 page_key _ page h = absurd (let contra : None ≡ Some (PageObject page) = h in cc)

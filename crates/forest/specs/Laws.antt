@@ -345,6 +345,12 @@ OwnWayIsOwn =
     → Held forest outside [] → IsSpace forest [] space → OwnWay forest space (page_way page)
     → map_of forest.keys space page ≡ Some found → found.page ≢ 0 → IsOwn forest space page found
 
+-- And the way to an own page is this space's own.
+abbrev pub OwnHasOwnWay : Type 0
+OwnHasOwnWay =
+    (forest : Forest) (outside : Object → ℕ) (space page : ℕ) (found : Mapping)
+    → Held forest outside [] → IsSpace forest [] space → IsOwn forest space page found → OwnWay forest space (page_way page)
+
 -- A call that releases a space, whose key is in hand.
 abbrev pub CallDropsSpace : Type 0
 CallDropsSpace =

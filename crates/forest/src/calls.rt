@@ -1,6 +1,6 @@
 //! What calls on spaces will promise, put together from the laws.
 
-ghost use Rattle.forest.specs.Laws.{CallChangesMap, OwnWayIsOwn, CallSharesSpace, CallAddsSpace, CallDropsSpace};
+ghost use Rattle.forest.specs.Laws.{CallChangesMap, OwnWayIsOwn, OwnHasOwnWay, CallSharesSpace, CallAddsSpace, CallDropsSpace};
 
 /// A call that changes a page of a space changes the map of this space at this page number, and nothing else.
 pub fn call_changes_map()
@@ -10,6 +10,11 @@ pub fn call_changes_map()
 /// A page found at the end of an own way is own.
 pub fn own_way_is_own()
     ensures { OwnWayIsOwn }
+{}
+
+/// The way to an own page is this space's own.
+pub fn own_has_own_way()
+    ensures { OwnHasOwnWay }
 {}
 
 /// A call that adds a space over the children of another one: it has the same map.

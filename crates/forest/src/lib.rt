@@ -16,7 +16,8 @@ mod reach;
 mod release;
 
 pub use calls::{
-    call_adds_space, call_changes_map, call_drops_space, call_shares_space, own_way_is_own,
+    call_adds_space, call_changes_map, call_drops_space, call_shares_space, own_has_own_way,
+    own_way_is_own,
 };
 pub use empty::{
     descent_leaves_last_empty, pruning_empties_above, release_leaves_none_empty,

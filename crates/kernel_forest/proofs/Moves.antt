@@ -18,14 +18,14 @@ use Rattle.space_bank.specs.Bank.{BankGood, TakesNode}
 use Rattle.space_bank.specs.Shares.{Outside, Shares, Unnamed, PutsNodeInHand, NamesNothing, key_names_node, node_places, node_in_hand}
 use Rattle.space_bank.proofs.HandLaws.{nothing-in_hand}
 use Rattle.space_bank.proofs.FreeListLaws.{entry_inside}
-use Rattle.space_bank.specs.Changes.{IsTaken, with_count as entry_with_count, page_counted, node_counted, key_written, PutsPageKeyInHand, PutsNodeKeyInHand, TakesNodeKeyOutOfHand, ExchangesKeys}
+use Rattle.space_bank.specs.Changes.{IsTaken, with_count as entry_with_count, page_counted, node_counted, key_written, PutsPageKeyInHand, PutsNodeKeyInHand, TakesPageKeyOutOfHand, TakesNodeKeyOutOfHand, ExchangesKeys}
 use Rattle.space_bank.proofs.EntryLaws.{set_cases}
 use Rattle.unix_model.specs.Tables.{at, with_at}
 use Rattle.unix_model.proofs.TableLaws.{at-with_at, at-with_at-other}
 use Rattle.forest.specs.Objects.{Object, PageObject, NodeObject, Owner, named, names, with_object}
 use Rattle.forest.specs.Walks.{place_of}
 use Rattle.forest.specs.Forest.{Forest, masked}
-use Rattle.forest.specs.Changes.{with_count, with_key, with_taken, raised, counted_more, IsFree}
+use Rattle.forest.specs.Changes.{with_count, with_key, with_taken, raised, counted_more, counted_less, IsFree}
 use Rattle.forest.proofs.ExactLaws.{count_same}
 use Rattle.forest.proofs.MaskLaws.{masked_writes, masked_owners}
 use Rattle.kernel_forest.specs.Trees.{owner_of, count_of, tree_shares, forest_of, tree_in, page_tree, node_tree, is_counted, is_elsewhere, elsewhere, outside_by, outside_trees, IsTreeKey, AreTreeKeys}
@@ -465,6 +465,30 @@ lowers_node old new node height owned e takes =
         number = ap (λ (k : Kernel). k.machine.nodes_taken) e ∙ sym (add-zero old.machine.nodes_taken);
       };
       shares = λ outside hand counted. takes outside hand (Segment node height) (eq-eqb node.0 node.0 refl) counted;
+    }
+
+-- .. and a page
+pub lowers_page_key : (old new : Kernel) (page : PageId) (writable : Bool) → BankGood old → page.0 ≢ 0 → IsSome ((forest_of old).owner (PageObject page.0))
+    → new ≡ page_counted old (page.0 - first_page old.size) (shares (entry_at old.page_entries (page.0 - first_page old.size)) - 1) → TakesPageKeyOutOfHand old new page.0
+    → LowersKey old new (Page page writable)
+unfolding count_of
+lowers_page_key old new page writable good real owned e takes =
+    let here = page_inside old page.0 good owned in
+    let low = here.low in
+    let number : first_page old.size + (page.0 - first_page old.size) ≡ page.0 = omega arith in
+    let taken = tree_taken page_tree (entry_at old.page_entries (page.0 - first_page old.size)) here.some in
+    let inside = entry_inside old.page_entries (page.0 - first_page old.size) (λ s. let no : IsTaken {O = PageOwner} Unspelled = rw s at taken in absurd no) in
+    record {
+      steps = record {
+        forest_now = ap forest_of e ∙ rw number at (forest-page_counted old (page.0 - first_page old.size) (shares (entry_at old.page_entries (page.0 - first_page old.size)) - 1) inside here.some)
+            ∙ ap (λ n. with_count (forest_of old) (PageObject page.0) (n - 1)) (sym (page_shares old page.0 here))
+            ∙ sym (ap (counted_less (forest_of old)) (let is : named (Page page writable) ≡ Some (PageObject page.0) = rw (ne_eqb page.0 0 real) refl in is));
+        outside_now = λ outside. ap (λ k. outside_trees k outside) e ∙ outside-page_counted old (page.0 - first_page old.size) (shares (entry_at old.page_entries (page.0 - first_page old.size)) - 1) outside inside;
+        rows_now = rows_of old new (page_counted old (page.0 - first_page old.size) (shares (entry_at old.page_entries (page.0 - first_page old.size)) - 1)) e (λ mine apart. refl);
+        rest = rest_of old new (page_counted old (page.0 - first_page old.size) (shares (entry_at old.page_entries (page.0 - first_page old.size)) - 1)) e refl;
+        number = ap (λ (k : Kernel). k.machine.nodes_taken) e ∙ sym (add-zero old.machine.nodes_taken);
+      };
+      shares = λ outside hand counted. takes outside hand (Page page writable) (eq-eqb page.0 page.0 refl) counted;
     }
 
 pub never_taken : (entry : Entry NodeOwner) → ((owner : NodeOwner) (count : ℕ) → entry ≡ Taken owner count → ⊥) → IsTaken entry → ⊥

@@ -89,13 +89,21 @@ RaisesNode =
     → new ≡ node_counted old node.0 (shares (entry_at old.node_entries node.0) + 1)
     → PutsNodeKeyInHand old new node.0 → RaisesKey old new (Segment node height)
 
--- A node of a tree is counted once less.
+-- A node of a tree is counted once less, ..
 abbrev pub CountsNodeLess : Type 0
 CountsNodeLess =
     (old new : Kernel) (node : NodeId) (height : ℕ)
     → IsSome ((forest_of old).owner (NodeObject node.0))
     → new ≡ node_counted old node.0 (shares (entry_at old.node_entries node.0) - 1)
     → TakesNodeKeyOutOfHand old new node.0 → LowersKey old new (Segment node height)
+
+-- .. and a page of a tree.
+abbrev pub CountsPageLess : Type 0
+CountsPageLess =
+    (old new : Kernel) (page : PageId) (writable : Bool)
+    → BankGood old → page.0 ≢ 0 → IsSome ((forest_of old).owner (PageObject page.0))
+    → new ≡ page_counted old (page.0 - first_page old.size) (shares (entry_at old.page_entries (page.0 - first_page old.size)) - 1)
+    → TakesPageKeyOutOfHand old new page.0 → LowersKey old new (Page page writable)
 
 -- A node of a domain is given back, once its keys are Null.
 abbrev pub GivesDomainNode : Type 0

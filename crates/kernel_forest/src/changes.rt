@@ -1,6 +1,6 @@
 //! What taking, counting and writing are for the forest, and how a key is handed over.
 
-ghost use Rattle.kernel_forest.specs.Laws.{TakesTreeNode, TakesDomainNode, WritesTreeKey, WritesRow, TakesTreePage, RaisesPage, RaisesNode, CountsNodeLess, GivesDomainNode};
+ghost use Rattle.kernel_forest.specs.Laws.{TakesTreeNode, TakesDomainNode, WritesTreeKey, WritesRow, TakesTreePage, RaisesPage, RaisesNode, CountsNodeLess, CountsPageLess, GivesDomainNode};
 
 /// A node that is taken for a tree.
 pub fn takes_tree_node()
@@ -40,6 +40,11 @@ pub fn raises_tree_node()
 /// A node of a tree that is counted once less.
 pub fn counts_node_less()
     ensures { CountsNodeLess }
+{}
+
+/// A page of a tree that is counted once less.
+pub fn counts_page_less()
+    ensures { CountsPageLess }
 {}
 
 /// A node of a domain that is given back changes no tree and no row.

@@ -7,7 +7,7 @@ mod counts;
 mod releases;
 
 pub use changes::{
-    counts_node_less, gives_domain_node, raises_tree_node, raises_tree_page, takes_domain_node,
+    counts_node_less, counts_page_less, gives_domain_node, raises_tree_node, raises_tree_page, takes_domain_node,
     takes_tree_node, takes_tree_page, writes_row, writes_tree_key,
 };
 pub use counts::{bank_is_exact, empty_is_good, root_is_single, space_handed_out, untaken_is_good};

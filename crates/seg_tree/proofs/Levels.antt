@@ -115,6 +115,7 @@ descends_root kernel outside hand space to trees = record {
   rest = refl;
   number = sym (add-zero kernel.machine.nodes_taken);
   few = omega arith;
+  same = λ none. refl;
 }
 
 module _ (old mid : Kernel) (outside : Outside) (hand : List Key) (space : ℕ) (to : Owner) (way : List ℕ) (above : ℕ) (c : Begins old outside hand space to)
@@ -147,6 +148,7 @@ module _ (old mid : Kernel) (outside : Outside) (hand : List Key) (space : ℕ) 
       rest = d.rest;
       number = d.number;
       few = let f = d.few in omega arith;
+      same = d.same;
     }
 
     pub next_fresh : (new : Kernel) (child height : ℕ) → height ≡ 4 - length way → FreshChild mid new (place_of above digit) height to child → Descends old new outside hand space to (digit ∷ way) child
@@ -181,6 +183,7 @@ module _ (old mid : Kernel) (outside : Outside) (hand : List Key) (space : ℕ) 
           rest = rest_trans old mid new d.rest fresh.changes.steps.rest;
           number = let a = fresh.changes.steps.number in let b = d.number in omega arith;
           few = let f = d.few in omega arith;
+          same = λ none. absurd (omega arith);
         }
 
     pub next : (new : Kernel) (child height : ℕ) → height ≡ 4 - length way → OwnsChild mid new (place_of above digit) height to child → Descends old new outside hand space to (digit ∷ way) child

@@ -1,11 +1,15 @@
+pub mod BlockCounts
 pub mod Copying
 pub mod Children
 pub mod Owning
 pub mod Levels
 pub mod Walking
 pub mod Mapping
+pub mod OwnPages
 pub mod Adding
 pub mod Emptying
+pub mod PageCopies
 pub mod Sharing
 pub mod Replacing
+pub mod Making
 pub mod Counting

@@ -185,7 +185,7 @@ module _ (old mid : Kernel) (outside : Outside) (space page node : ℕ) (to : Ow
     put_most = let a = puts.steps.number in let b = d.number in let c = d.few in omega (arith, long)
 
 -- a way that is made own takes no page
-made_pages : {outside : Object → ℕ} {hand : List Key} {space : ℕ} {owner : Owner} {first last : Forest} {way : List ℕ} {taken : ℕ}
+pub made_pages : {outside : Object → ℕ} {hand : List Key} {space : ℕ} {owner : Owner} {first last : Forest} {way : List ℕ} {taken : ℕ}
     → MadeOwn outside hand space owner first way last taken → (number : ℕ) → last.owner (PageObject number) ≡ first.owner (PageObject number)
 unfolding with_object
 made_pages root number = refl

@@ -2,4 +2,6 @@
 pub mod Steps
 pub mod Leaves
 pub mod Releases
+pub mod Blocks
 pub mod Promises
+pub mod Writes

@@ -82,3 +82,4 @@ pub record Descends (old new : Kernel) (outside : Outside) (hand : List Key) (sp
   pub rest : KeepsRest old new
   pub number : new.machine.nodes_taken ≡ old.machine.nodes_taken + taken
   pub few : taken ≤ length way
+  pub same : taken ≡ 0 → new ≡ old

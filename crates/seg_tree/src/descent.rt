@@ -10,6 +10,7 @@ ghost use Rattle.forest.specs.Objects.{NodeObject, Owner};
 ghost use Rattle.forest.specs.Walks.{digits};
 ghost use Rattle.forest.specs.Forest.{IsSpace, top_digit};
 ghost use Rattle.kernel_forest.specs.Trees.{forest_of, node_tree, TreesGood};
+ghost use Rattle.seg_tree.specs.Blocks.{ChangesAtMost};
 ghost use Rattle.seg_tree.specs.Steps.{Descends};
 
 use super::steps::own_child;
@@ -32,6 +33,7 @@ pub fn own_node<T: Store>(
     requires owner { (forest_of (kernel_of (T.memory store.old))).owner (NodeObject space.0) ≡ node_tree owner }
     ensures way { (outside : Outside) (hand : List Key) (to : Owner) → TreesGood (kernel_of (T.memory store.old)) outside hand → IsSpace (forest_of (kernel_of (T.memory store.old))) hand space.0 → node_tree owner ≡ Some to → Descends (kernel_of (T.memory store.old)) (kernel_of (T.memory store.new)) outside hand space.0 to (digits levels number) result.0 }
     ensures good { BankGood (kernel_of (T.memory store.new)) }
+    ensures blocks { ChangesAtMost (T.blocks store.old) (T.blocks store.new) (21 * levels) }
     ensures keeps { T.keeps store.old store.new }
 {
     if levels == 0 {

@@ -8,6 +8,7 @@ ghost use Rattle.space_bank.specs.Shares.{Outside};
 ghost use Rattle.forest.specs.Objects.{Object, NodeObject, named};
 ghost use Rattle.forest.specs.Forest.{IsSpace, FitsUnder};
 ghost use Rattle.kernel_forest.specs.Trees.{forest_of, node_tree, TreesGood};
+ghost use Rattle.seg_tree.specs.Blocks.{ChangesAtMost};
 ghost use Rattle.seg_tree.specs.Leaves.{PutsLeaf};
 
 use super::descent::own_node;
@@ -38,6 +39,7 @@ pub fn put_leaf<T: Store>(store: &mut T, space: NodeId, page: u32, key: Key) -> 
     requires room { let old = kernel_of (T.memory store.old) in old.machine.nodes_taken + 19 ≤ old.nodes }
     ensures put { PutsLeaf (kernel_of (T.memory store.old)) (kernel_of (T.memory store.new)) space.0 page key result }
     ensures good { BankGood (kernel_of (T.memory store.new)) }
+    ensures blocks { ChangesAtMost (T.blocks store.old) (T.blocks store.new) 85 }
     ensures keeps { T.keeps store.old store.new }
 {
     let owner = tree_owner(store, space);

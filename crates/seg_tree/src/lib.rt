@@ -11,8 +11,10 @@ mod release;
 mod spaces;
 mod steps;
 mod walk;
+mod writing;
 
 pub use count::mapped;
 pub use release::drop_space;
 pub use spaces::{Space, map_zero, new_space, protect, share};
 pub use walk::{Found, find};
+pub use writing::writable;

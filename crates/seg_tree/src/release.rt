@@ -14,6 +14,7 @@ ghost use Rattle.space_bank.specs.Laws.{and_outside};
 ghost use Rattle.forest.specs.Walks.{space_key};
 ghost use Rattle.kernel_forest.specs.Trees.{forest_of, TreesGood};
 ghost use Rattle.kernel_forest.specs.Releases.{Lets, InHand};
+ghost use Rattle.seg_tree.specs.Blocks.{ChangesAtMost};
 ghost use Rattle.seg_tree.specs.Releases.{TakesOut, Empties, Leaves};
 ghost use Rattle.seg_tree.specs.Promises.{Drops};
 
@@ -29,6 +30,7 @@ pub fn release_page<T: Store>(store: &mut T, page: PageId, writable: bool)
     ensures released { Lets (kernel_of (T.memory store.old)) (kernel_of (T.memory store.new)) (Page page writable ∷ []) [] }
     ensures nodes { (kernel_of (T.memory store.new)).machine.nodes_taken ≡ (kernel_of (T.memory store.old)).machine.nodes_taken }
     ensures good { BankGood (kernel_of (T.memory store.new)) }
+    ensures blocks { ChangesAtMost (T.blocks store.old) (T.blocks store.new) 3 }
     ensures keeps { T.keeps store.old store.new }
 {
     if page.0 == 0 {
@@ -49,6 +51,7 @@ pub fn release_leaf<T: Store>(store: &mut T, key: Key)
     ensures released { Lets (kernel_of (T.memory store.old)) (kernel_of (T.memory store.new)) (key ∷ []) [] }
     ensures nodes { (kernel_of (T.memory store.new)).machine.nodes_taken ≡ (kernel_of (T.memory store.old)).machine.nodes_taken }
     ensures good { BankGood (kernel_of (T.memory store.new)) }
+    ensures blocks { ChangesAtMost (T.blocks store.old) (T.blocks store.new) 3 }
     ensures keeps { T.keeps store.old store.new }
 {
     match key {

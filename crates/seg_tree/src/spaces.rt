@@ -11,6 +11,7 @@ ghost use Rattle.forest.specs.Objects.{NodeObject, Owner, named};
 ghost use Rattle.forest.specs.Walks.{digits, map_of, Mapping, place_of};
 ghost use Rattle.forest.specs.Forest.{IsSpace};
 ghost use Rattle.kernel_forest.specs.Trees.{forest_of, node_tree, TreesGood, IsTreeKey};
+ghost use Rattle.seg_tree.specs.Blocks.{ChangesAtMost};
 ghost use Rattle.seg_tree.specs.Promises.{Remaps, Replaces, Adds};
 
 use super::leaf::{put_leaf, tree_owner};
@@ -34,6 +35,7 @@ pub fn map_zero<T: Store>(store: &mut T, space: Space, page: u32, writable: bool
     requires room { let old = kernel_of (T.memory store.old) in old.machine.nodes_taken + 19 ≤ old.nodes }
     ensures mapped { let old = kernel_of (T.memory store.old) in Remaps old (kernel_of (T.memory store.new)) space.0.0 4 (with_at (map_of (forest_of old).keys space.0.0) page (Some (record { writable = writable; page = 0 }))) }
     ensures good { BankGood (kernel_of (T.memory store.new)) }
+    ensures blocks { ChangesAtMost (T.blocks store.old) (T.blocks store.new) 85 }
     ensures keeps { T.keeps store.old store.new }
 {
     let key = Key::Page {
@@ -53,6 +55,7 @@ pub fn protect<T: Store>(store: &mut T, space: Space, page: u32)
     requires room { let old = kernel_of (T.memory store.old) in old.machine.nodes_taken + 19 ≤ old.nodes }
     ensures protected { let old = kernel_of (T.memory store.old) in let map = map_of (forest_of old).keys space.0.0 in (found : Mapping) → map page ≡ Some found → Replaces old (kernel_of (T.memory store.new)) space.0.0 4 (with_at map page (Some (record found { writable = false }))) }
     ensures good { BankGood (kernel_of (T.memory store.new)) }
+    ensures blocks { ChangesAtMost (T.blocks store.old) (T.blocks store.new) 89 }
     ensures keeps { T.keeps store.old store.new }
 {
     match find(store, space, page) {
@@ -80,6 +83,7 @@ pub fn new_space<T: Store>(store: &mut T, owner: NodeOwner, keeper: Key) -> Spac
     requires room { let old = kernel_of (T.memory store.old) in old.machine.nodes_taken + 15 < old.nodes }
     ensures added { Adds (kernel_of (T.memory store.old)) (kernel_of (T.memory store.new)) result.0.0 (node_tree owner) keeper (λ page. None) }
     ensures good { BankGood (kernel_of (T.memory store.new)) }
+    ensures blocks { ChangesAtMost (T.blocks store.old) (T.blocks store.new) 3 }
     ensures keeps { T.keeps store.old store.new }
 {
     let root = take_tree_node(store, owner);
@@ -96,6 +100,7 @@ pub fn share<T: Store>(store: &mut T, space: Space) -> Space
     requires room { let old = kernel_of (T.memory store.old) in old.machine.nodes_taken + 15 < old.nodes }
     ensures shared { let old = kernel_of (T.memory store.old) in let forest = forest_of old in Adds old (kernel_of (T.memory store.new)) result.0.0 (forest.owner (NodeObject space.0.0)) (at forest.keys (place_of space.0.0 15)) (map_of forest.keys space.0.0) }
     ensures good { BankGood (kernel_of (T.memory store.new)) }
+    ensures blocks { ChangesAtMost (T.blocks store.old) (T.blocks store.new) 19 }
     ensures keeps { T.keeps store.old store.new }
 {
     let owner = tree_owner(store, space.0);

@@ -1,6 +1,6 @@
 //! The steps of which calls on spaces are made.
 
-ghost use Rattle.std.specs.Prelude.{◌≡◌, ℕ, ◌+◌, ◌*◌, ◌<◌, ◌≤◌, IsSome, Some};
+ghost use Rattle.std.specs.Prelude.{◌≡◌, ℕ, ◌+◌, ◌*◌, ◌<◌, ◌≤◌, IsSome, Some, [], ◌∷◌};
 ghost use Rattle.kn_base.specs.declared.key.Key.TheVariants.{Null, Segment};
 ghost use Rattle.kn_base.specs.Memory.{Memory};
 ghost use Rattle.kernel_tables.specs.Kernel.{Kernel, kernel_of, Sized, IsSized};
@@ -11,6 +11,8 @@ ghost use Rattle.forest.specs.Walks.{place_of};
 ghost use Rattle.kernel_forest.specs.Trees.{forest_of, node_tree, IsTreeKey};
 ghost use Rattle.kernel_tables.specs.Rows.{key_table};
 ghost use Rattle.kernel_forest.specs.Moves.{MayRaise, RaisesKey, PutsKey, TakesFresh, LowersKey, Changes};
+ghost use Rattle.kernel_tables.specs.Blocks.{key_block, ChangesBlocks};
+ghost use Rattle.seg_tree.specs.Blocks.{ChangesBeside, ChangesAtMost};
 ghost use Rattle.seg_tree.specs.Steps.{MayCopyKey, MayCopy, key_copied, copying, segment_of, MayOwn, FreshChild, OwnsChild};
 
 use kernel_tables::{NodeOwner, key_at};
@@ -47,6 +49,7 @@ pub fn raise_key<T: Store>(store: &mut T, key: Key)
     requires may { MayRaise (forest_of (kernel_of (T.memory store.old))) key }
     ensures raised { RaisesKey (kernel_of (T.memory store.old)) (kernel_of (T.memory store.new)) key }
     ensures good { BankGood (kernel_of (T.memory store.new)) }
+    ensures blocks { ChangesAtMost (T.blocks store.old) (T.blocks store.new) 1 }
     ensures keeps { T.keeps store.old store.new }
 {
     match key {
@@ -69,6 +72,7 @@ pub fn put_key<T: Store>(store: &mut T, node: NodeId, digit: u8, key: Key)
     requires was_of_tree { IsTreeKey (at (forest_of (kernel_of (T.memory store.old))).keys (place_of node.0 digit)) }
     ensures put { PutsKey (kernel_of (T.memory store.old)) (kernel_of (T.memory store.new)) (place_of node.0 digit) key }
     ensures good { BankGood (kernel_of (T.memory store.new)) }
+    ensures blocks { ChangesBlocks (T.blocks store.old) (T.blocks store.new) (key_block (kernel_of (T.memory store.old)).pages node.0 ∷ []) }
     ensures keeps { T.keeps store.old store.new }
 {
     write_key(store, node, digit, key);
@@ -80,6 +84,7 @@ pub fn take_tree_node<T: Store>(store: &mut T, owner: NodeOwner) -> NodeId
     requires room { let old = kernel_of (T.memory store.old) in old.machine.nodes_taken + 15 < old.nodes }
     ensures taken { (to : Owner) → node_tree owner ≡ Some to → TakesFresh (kernel_of (T.memory store.old)) (kernel_of (T.memory store.new)) result.0 to }
     ensures good { BankGood (kernel_of (T.memory store.new)) }
+    ensures blocks { ChangesAtMost (T.blocks store.old) (T.blocks store.new) 2 }
     ensures keeps { T.keeps store.old store.new }
 {
     match take_node(store, owner) {
@@ -95,6 +100,7 @@ pub fn lower_key<T: Store>(store: &mut T, node: NodeId)
     requires shared { 2 ≤ (forest_of (kernel_of (T.memory store.old))).count (NodeObject node.0) }
     ensures lowered { (height : ℕ) → LowersKey (kernel_of (T.memory store.old)) (kernel_of (T.memory store.new)) (Segment node height) }
     ensures good { BankGood (kernel_of (T.memory store.new)) }
+    ensures blocks { ChangesAtMost (T.blocks store.old) (T.blocks store.new) 1 }
     ensures keeps { T.keeps store.old store.new }
 {
     lower_node(store, node);
@@ -107,6 +113,7 @@ fn copy_key<T: Store>(store: &mut T, from: NodeId, to: NodeId, digit: u8)
     requires may { MayCopyKey (forest_of (kernel_of (T.memory store.old))) from.0 to.0 digit }
     ensures copied { let old = kernel_of (T.memory store.old) in Changes old (kernel_of (T.memory store.new)) (key_copied (forest_of old) (at (forest_of old).keys (place_of from.0 digit)) (place_of to.0 digit)) 0 }
     ensures good { BankGood (kernel_of (T.memory store.new)) }
+    ensures blocks { ChangesBeside (T.blocks store.old) (T.blocks store.new) (key_block (kernel_of (T.memory store.old)).pages to.0 ∷ []) 1 }
     ensures keeps { T.keeps store.old store.new }
 {
     let key = tree_key(store, from, digit);
@@ -120,6 +127,7 @@ pub fn copy_keys<T: Store>(store: &mut T, from: NodeId, to: NodeId)
     requires may { MayCopy (forest_of (kernel_of (T.memory store.old))) from.0 to.0 }
     ensures copied { let old = kernel_of (T.memory store.old) in Changes old (kernel_of (T.memory store.new)) (copying (forest_of old) from.0 to.0 16) 0 }
     ensures good { BankGood (kernel_of (T.memory store.new)) }
+    ensures blocks { ChangesAtMost (T.blocks store.old) (T.blocks store.new) 17 }
     ensures keeps { T.keeps store.old store.new }
 {
     for digit in 0..16 {
@@ -153,6 +161,7 @@ fn copy_child<T: Store>(
     requires shared { 2 ≤ (forest_of (kernel_of (T.memory store.old))).count (NodeObject child.0) }
     ensures fresh { (to : Owner) → node_tree owner ≡ Some to → FreshChild (kernel_of (T.memory store.old)) (kernel_of (T.memory store.new)) (place_of node.0 digit) height to result.0 }
     ensures good { BankGood (kernel_of (T.memory store.new)) }
+    ensures blocks { ChangesAtMost (T.blocks store.old) (T.blocks store.new) 21 }
     ensures keeps { T.keeps store.old store.new }
 {
     let fresh = take_tree_node(store, owner);
@@ -176,6 +185,7 @@ fn add_child<T: Store>(
     requires empty { at (forest_of (kernel_of (T.memory store.old))).keys (place_of node.0 digit) ≡ Null }
     ensures fresh { (to : Owner) → node_tree owner ≡ Some to → FreshChild (kernel_of (T.memory store.old)) (kernel_of (T.memory store.new)) (place_of node.0 digit) height to result.0 }
     ensures good { BankGood (kernel_of (T.memory store.new)) }
+    ensures blocks { ChangesAtMost (T.blocks store.old) (T.blocks store.new) 21 }
     ensures keeps { T.keeps store.old store.new }
 {
     let fresh = take_tree_node(store, owner);
@@ -196,6 +206,7 @@ pub fn own_child<T: Store>(
     requires may { (to : Owner) × (node_tree owner ≡ Some to) × MayOwn (forest_of (kernel_of (T.memory store.old))) node.0 digit height to }
     ensures own { (to : Owner) → node_tree owner ≡ Some to → OwnsChild (kernel_of (T.memory store.old)) (kernel_of (T.memory store.new)) (place_of node.0 digit) height to result.0 }
     ensures good { BankGood (kernel_of (T.memory store.new)) }
+    ensures blocks { ChangesAtMost (T.blocks store.old) (T.blocks store.new) 21 }
     ensures keeps { T.keeps store.old store.new }
 {
     match segment_of(tree_key(store, node, digit)) {

@@ -1,6 +1,6 @@
 //! Walking down a space.
 
-ghost use Rattle.std.specs.Prelude.{◌≡◌, ℕ, ◌+◌, ◌-◌, ◌*◌, ◌/◌, ◌%◌, ◌<◌, ◌≤◌, ◌^◌, IsSome, Some, None, List, []};
+ghost use Rattle.std.specs.Prelude.{◌≡◌, ℕ, ◌+◌, ◌-◌, ◌*◌, ◌/◌, ◌%◌, ◌<◌, ◌≤◌, ◌^◌, ◌⊎◌, IfSome, IsSome, Some, None, List, []};
 ghost use Rattle.kn_base.specs.declared.key.Key.{Key};
 ghost use Rattle.kn_base.specs.Memory.{Memory};
 ghost use Rattle.kernel_tables.specs.Kernel.{Kernel, kernel_of, Sized, IsSized};
@@ -12,6 +12,7 @@ ghost use Rattle.forest.specs.Forest.{IsSpace, Sound};
 ghost use Rattle.space_bank.specs.Shares.{Outside};
 ghost use Rattle.kernel_forest.specs.Trees.{forest_of, TreesGood};
 ghost use Rattle.seg_tree.specs.Promises.{found_mapping};
+ghost use Rattle.seg_tree.specs.Writes.{IsInUse};
 
 use super::spaces::Space;
 use super::steps::{segment_of, tree_key};
@@ -61,7 +62,8 @@ pub fn find<T: Store>(store: &T, space: Space, page: u32) -> Option<Found>
     requires trees { (outside : Outside) × TreesGood (kernel_of (T.memory store.now)) outside [] }
     requires space { IsSpace (forest_of (kernel_of (T.memory store.now))) [] space.0.0 }
     requires page { page < 2 ^ 19 }
-    ensures { found_mapping result ≡ map_of (forest_of (kernel_of (T.memory store.now))).keys space.0.0 page }
+    ensures found { found_mapping result ≡ map_of (forest_of (kernel_of (T.memory store.now))).keys space.0.0 page }
+    ensures in_use { IfSome result (λ found. (found.page.0 ≡ 0) ⊎ IsInUse (kernel_of (T.memory store.now)) found.page.0) }
 {
     match key_on_way(store, space.0, 5, page) {
         Key::Page { id, writable } => Some(Found { page: id, writable }),

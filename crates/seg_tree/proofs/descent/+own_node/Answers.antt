@@ -1,9 +1,10 @@
-use Rattle.std.proofs.Common.{◌≡◌, ◌-◌, ◌/◌, ap, sym, subst, ◌∙◌, arith, rules}
+use Rattle.std.proofs.Common.{◌≡◌, ◌-◌, ◌*◌, ◌/◌, ap, sym, subst, ◌∙◌, arith, rules}
 use Rattle.std.specs.Option.{is_some}
 use Rattle.kernel_tables.specs.Kernel.{Kernel, kernel_of}
 use Rattle.kernel_forest.specs.Trees.{node_tree}
 use Rattle.seg_tree.specs.Steps.{Descends}
 use Rattle.seg_tree.proofs.Levels.{descends_root, digits-zero, digits-length, some_owner, Level, level_may, level_next, top_above}
+use Rattle.seg_tree.proofs.BlockCounts.{none_at_most, more_at_most}
 use Rattle.seg_tree.proofs.descent.+own_node.Goals as goal
 
 pub returns-then-levels-eq0-clause-way : goal.returns-then-levels-eq0-clause-way
@@ -61,3 +62,11 @@ returns-clause-way g t c outside hand to trees is_space tree =
       descends = c.own_node-above.ensures.way outside hand to trees is_space tree;
     } in
     level_next k0 k1 outside hand c.args.space.0 to c.args.levels c.args.number c.own_node-above.result.0 level k2 c.own_child.result.0 (c.own_child.ensures.own to tree)
+
+pub returns-then-levels-eq0-clause-blocks : goal.returns-then-levels-eq0-clause-blocks
+returns-then-levels-eq0-clause-blocks g t c = none_at_most (21 * c.args.levels)
+
+pub returns-clause-blocks : goal.returns-clause-blocks
+returns-clause-blocks g t c =
+    let some = c.if-levels-eq0.false in
+    more_at_most (21 * c.args.levels) (omega arith) c.own_node-above.ensures.blocks c.own_child.ensures.blocks

@@ -1,4 +1,4 @@
-use Rattle.std.proofs.Common.{◌∷◌, [], ap, sym, subst, ◌∙◌}
+use Rattle.std.proofs.Common.{arith, ◌∷◌, [], ap, sym, subst, ◌∙◌}
 use Rattle.std.specs.Option.{is_some}
 use Rattle.kn_base.specs.declared.key.Key.{Key}
 use Rattle.kernel_tables.specs.Kernel.{kernel_of}
@@ -7,6 +7,7 @@ use Rattle.kernel_forest.specs.Trees.{node_tree, forest_of, TreesGood}
 use Rattle.seg_tree.specs.Leaves.{PutsLeaf}
 use Rattle.seg_tree.proofs.Levels.{some_owner}
 use Rattle.seg_tree.proofs.Mapping.{page_top, space_leaf, node_owned, was_tree, puts_leaf}
+use Rattle.seg_tree.proofs.BlockCounts.{at_most, more_at_most}
 use Rattle.seg_tree.proofs.leaf.put_leaf.Goals as goal
 
 pub own_node-node-requires-clause-top : goal.own_node-node-requires-clause-top
@@ -66,3 +67,7 @@ returns-clause-put g c =
     (λ (outside : Outside) (trees : TreesGood old outside (c.args.key ∷ [])). c.own_node-node.ensures.way outside (c.args.key ∷ []) owner.0 trees
     (space_leaf (forest_of old) [] c.args.key c.args.space.0 c.requires.fits c.requires.space) owner.1)
     c.put_key.ensures.put)
+
+pub returns-clause-blocks : goal.returns-clause-blocks
+returns-clause-blocks g c = 
+    more_at_most 85 (omega arith) c.own_node-node.ensures.blocks (at_most 1 (omega arith) c.put_key.ensures.blocks)

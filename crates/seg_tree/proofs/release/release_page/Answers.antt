@@ -1,9 +1,10 @@
-use Rattle.std.proofs.Common.{sym, ◌∙◌}
+use Rattle.std.proofs.Common.{arith, sym, ◌∙◌}
 use Rattle.kernel_tables.specs.Kernel.{kernel_of}
 use Rattle.kernel_forest.proofs.Moves.{unnamed_zero, bank_page}
 use Rattle.kernel_forest.proofs.Giving.{hand_page, hand_page_unnamed, hand_page_once, hand_page_many, lets_nothing, lets_page_given, lets_page_lowered}
 use Rattle.kn_base.specs.declared.key.Key.TheVariants.{Page}
 use Rattle.std.proofs.Common.{refl}
+use Rattle.seg_tree.proofs.BlockCounts.{at_most, none_at_most}
 use Rattle.seg_tree.proofs.release.release_page.Goals as goal
 
 pub returns-then-page-eq0-clause-released : goal.returns-then-page-eq0-clause-released
@@ -57,3 +58,12 @@ returns-else-page_count-eq1-clause-released g c =
     lets_page_lowered k (kernel_of (g.T.Store.memory c.lower_page.new.store)) c.args.page c.args.writable c.requires.good c.if-page-eq0.false c.requires.hand
     (hand_page_many k c.args.page c.args.writable c.requires.good c.if-page-eq0.false c.requires.hand (λ e. c.if-page_count-eq1.false (c.page_count.ensures ∙ e)))
     c.lower_page.ensures.lowered c.lower_page.ensures.shares
+
+pub returns-then-page-eq0-clause-blocks : goal.returns-then-page-eq0-clause-blocks
+returns-then-page-eq0-clause-blocks g c = none_at_most 3
+
+pub returns-then-page_count-eq1-clause-blocks : goal.returns-then-page_count-eq1-clause-blocks
+returns-then-page_count-eq1-clause-blocks g c = at_most 3 (omega arith) c.give_page.ensures.blocks
+
+pub returns-else-page_count-eq1-clause-blocks : goal.returns-else-page_count-eq1-clause-blocks
+returns-else-page_count-eq1-clause-blocks g c = at_most 3 (omega arith) c.lower_page.ensures.blocks

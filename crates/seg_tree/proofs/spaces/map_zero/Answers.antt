@@ -30,3 +30,6 @@ returns-clause-mapped g c =
       rest = put.rest;
       most = put.most;
     }
+
+pub returns-clause-blocks : goal.returns-clause-blocks
+returns-clause-blocks g c = c.put_leaf.ensures.blocks

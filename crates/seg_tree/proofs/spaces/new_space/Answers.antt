@@ -3,6 +3,7 @@ use Rattle.kernel_tables.specs.Kernel.{kernel_of}
 use Rattle.kernel_forest.specs.Trees.{node_tree}
 use Rattle.seg_tree.proofs.Levels.{some_owner}
 use Rattle.seg_tree.proofs.Adding.{added, fresh_owned, fresh_tree_key}
+use Rattle.seg_tree.proofs.BlockCounts.{at_most, more_at_most}
 use Rattle.seg_tree.proofs.spaces.new_space.Goals as goal
 
 pub put_key-requires-clause-owned : goal.put_key-requires-clause-owned
@@ -23,3 +24,7 @@ returns-clause-added g c =
     added (kernel_of (g.T.Store.memory c.args.store.now)) (kernel_of (g.T.Store.memory c.take_tree_node-root.new.store)) (kernel_of (g.T.Store.memory c.put_key.new.store))
     c.take_tree_node-root.result owner.0 c.args.keeper c.requires.keeper c.requires.of_tree c.requires.trees.1.held.sound
     (c.take_tree_node-root.ensures.taken owner.0 owner.1) c.put_key.ensures.put (node_tree c.args.owner) owner.1
+
+pub returns-clause-blocks : goal.returns-clause-blocks
+returns-clause-blocks g c = 
+    more_at_most 3 (omega arith) c.take_tree_node-root.ensures.blocks (at_most 1 (omega arith) c.put_key.ensures.blocks)

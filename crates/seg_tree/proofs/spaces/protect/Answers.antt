@@ -5,29 +5,30 @@ use Rattle.kernel_tables.specs.Kernel.{Kernel, kernel_of}
 use Rattle.kernel_forest.specs.Trees.{forest_of}
 use Rattle.seg_tree.specs.Promises.{Replaces}
 use Rattle.seg_tree.proofs.Replacing.{page_or_zero, may_protect, raised_trees, raised_space, raised_owners, replaced}
+use Rattle.seg_tree.proofs.BlockCounts.{none_at_most, more_at_most}
 use Rattle.seg_tree.proofs.spaces.protect.Goals as goal
 
 pub raise_key-requires-clause-may : goal.raise_key-requires-clause-may
 raise_key-requires-clause-may g c =
     may_protect (kernel_of (g.T.Store.memory c.args.store.now)) c.args.space.0.0 c.args.page c.in-Some.found.writable c.in-Some.found.page c.requires.good c.requires.page
-    (sym c.in-Some.ensures) c.requires.trees.0 c.requires.trees.1
+    (sym c.in-Some.ensures.found) c.requires.trees.0 c.requires.trees.1
 
 pub put_leaf-was-requires-clause-trees : goal.put_leaf-was-requires-clause-trees
 put_leaf-was-requires-clause-trees g c = (
   c.requires.trees.0,
   raised_trees (kernel_of (g.T.Store.memory c.args.store.now)) c.args.space.0.0 c.args.page c.in-Some.found.writable c.in-Some.found.page c.requires.good c.requires.page
-      (sym c.in-Some.ensures) (kernel_of (g.T.Store.memory c.raise_key.new.store)) c.requires.trees.0 c.requires.trees.1 c.raise_key.ensures.raised,
+      (sym c.in-Some.ensures.found) (kernel_of (g.T.Store.memory c.raise_key.new.store)) c.requires.trees.0 c.requires.trees.1 c.raise_key.ensures.raised,
 )
 
 pub put_leaf-was-requires-clause-space : goal.put_leaf-was-requires-clause-space
 put_leaf-was-requires-clause-space g c =
     raised_space (kernel_of (g.T.Store.memory c.args.store.now)) c.args.space.0.0 c.args.page c.in-Some.found.writable c.in-Some.found.page c.requires.good c.requires.page
-    (sym c.in-Some.ensures) (kernel_of (g.T.Store.memory c.raise_key.new.store)) c.raise_key.ensures.raised c.args.space.0.0 c.requires.space
+    (sym c.in-Some.ensures.found) (kernel_of (g.T.Store.memory c.raise_key.new.store)) c.raise_key.ensures.raised c.args.space.0.0 c.requires.space
 
 pub put_leaf-was-requires-clause-owners : goal.put_leaf-was-requires-clause-owners
 put_leaf-was-requires-clause-owners g c =
     raised_owners (kernel_of (g.T.Store.memory c.args.store.now)) c.args.space.0.0 c.args.page c.in-Some.found.writable c.in-Some.found.page c.requires.good c.requires.page
-    (sym c.in-Some.ensures) (kernel_of (g.T.Store.memory c.raise_key.new.store)) c.raise_key.ensures.raised c.requires.trees.0 c.requires.trees.1
+    (sym c.in-Some.ensures.found) (kernel_of (g.T.Store.memory c.raise_key.new.store)) c.raise_key.ensures.raised c.requires.trees.0 c.requires.trees.1
 
 pub put_leaf-was-requires-clause-room : goal.put_leaf-was-requires-clause-room
 put_leaf-was-requires-clause-room g c =
@@ -42,7 +43,7 @@ release_leaf-requires-clause-hand g c = (
   [],
   c.put_leaf-was.ensures.put.hand c.requires.trees.0
       (raised_trees (kernel_of (g.T.Store.memory c.args.store.now)) c.args.space.0.0 c.args.page c.in-Some.found.writable c.in-Some.found.page c.requires.good c.requires.page
-      (sym c.in-Some.ensures) (kernel_of (g.T.Store.memory c.raise_key.new.store)) c.requires.trees.0 c.requires.trees.1 c.raise_key.ensures.raised),
+      (sym c.in-Some.ensures.found) (kernel_of (g.T.Store.memory c.raise_key.new.store)) c.requires.trees.0 c.requires.trees.1 c.raise_key.ensures.raised),
 )
 
 pub release_leaf-requires-clause-leaf : goal.release_leaf-requires-clause-leaf
@@ -54,11 +55,18 @@ returns-in-Some-clause-protected g c found is =
     let mid = kernel_of (g.T.Store.memory c.raise_key.new.store) in
     let put = kernel_of (g.T.Store.memory c.put_leaf-was.new.store) in
     let new = kernel_of (g.T.Store.memory c.release_leaf.new.store) in
-    let same : Some (record { writable = c.in-Some.found.writable; page = c.in-Some.found.page.0 }) ≡ Some found = c.in-Some.ensures ∙ is in
+    let same : Some (record { writable = c.in-Some.found.writable; page = c.in-Some.found.page.0 }) ≡ Some found = c.in-Some.ensures.found ∙ is in
     let pages : c.in-Some.found.page.0 ≡ found.page = ap page_or_zero same in
     subst (λ (number : ℕ). Replaces old new c.args.space.0.0 4 (with_at (map_of (forest_of old).keys c.args.space.0.0) c.args.page (Some (record { writable = false; page = number })))) pages
     (replaced old c.args.space.0.0 c.args.page c.in-Some.found.writable c.in-Some.found.page c.requires.good c.requires.page
-    (sym c.in-Some.ensures) mid c.raise_key.ensures.raised put new c.put_leaf-was.result c.put_leaf-was.ensures.put c.release_leaf.ensures.released c.release_leaf.ensures.nodes c.requires.trees.0 c.requires.trees.1)
+    (sym c.in-Some.ensures.found) mid c.raise_key.ensures.raised put new c.put_leaf-was.result c.put_leaf-was.ensures.put c.release_leaf.ensures.released c.release_leaf.ensures.nodes c.requires.trees.0 c.requires.trees.1)
 
 pub returns-in-None-clause-protected : goal.returns-in-None-clause-protected
-returns-in-None-clause-protected g c found is = let no : None ≡ Some found = c.in-None.ensures ∙ is in cc
+returns-in-None-clause-protected g c found is = let no : None ≡ Some found = c.in-None.ensures.found ∙ is in cc
+
+pub returns-in-Some-clause-blocks : goal.returns-in-Some-clause-blocks
+returns-in-Some-clause-blocks g c = 
+    more_at_most 89 (omega arith) c.raise_key.ensures.blocks (more_at_most 88 (omega arith) c.put_leaf-was.ensures.blocks c.release_leaf.ensures.blocks)
+
+pub returns-in-None-clause-blocks : goal.returns-in-None-clause-blocks
+returns-in-None-clause-blocks g c = none_at_most 89

@@ -1,9 +1,10 @@
-use Rattle.std.proofs.Common.{ap, sym, ◌∙◌}
+use Rattle.std.proofs.Common.{arith, ap, sym, ◌∙◌}
 use Rattle.std.specs.Option.{is_some}
 use Rattle.kernel_tables.specs.Kernel.{kernel_of}
 use Rattle.kernel_forest.specs.Trees.{node_tree}
 use Rattle.seg_tree.proofs.Levels.{some_owner}
 use Rattle.seg_tree.proofs.Sharing.{may_share, shares_space}
+use Rattle.seg_tree.proofs.BlockCounts.{more_at_most}
 use Rattle.seg_tree.proofs.spaces.share.Goals as goal
 
 pub copy_keys-requires-clause-may : goal.copy_keys-requires-clause-may
@@ -18,3 +19,7 @@ returns-clause-shared g c =
     shares_space (kernel_of (g.T.Store.memory c.args.store.now)) (kernel_of (g.T.Store.memory c.take_tree_node-root.new.store)) c.args.space.0 c.take_tree_node-root.result owner.0
     c.requires.trees.0 c.requires.good c.requires.trees.1 c.requires.space (c.tree_owner-owner.ensures ∙ owner.1) (c.take_tree_node-root.ensures.taken owner.0 owner.1)
     (kernel_of (g.T.Store.memory c.copy_keys.new.store)) c.copy_keys.ensures.copied
+
+pub returns-clause-blocks : goal.returns-clause-blocks
+returns-clause-blocks g c = 
+    more_at_most 19 (omega arith) c.take_tree_node-root.ensures.blocks c.copy_keys.ensures.blocks

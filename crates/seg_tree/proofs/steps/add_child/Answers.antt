@@ -1,4 +1,4 @@
-use Rattle.std.proofs.Common.{◌≡◌, Some, ap, sym, subst, ◌∙◌}
+use Rattle.std.proofs.Common.{arith, ◌≡◌, Some, ap, sym, subst, ◌∙◌}
 use Rattle.std.specs.Option.{is_some}
 use Rattle.kernel_tables.specs.Kernel.{kernel_of}
 use Rattle.forest.specs.Objects.{NodeObject}
@@ -6,6 +6,7 @@ use Rattle.forest.specs.Walks.{place_of}
 use Rattle.kernel_forest.specs.Trees.{forest_of}
 use Rattle.seg_tree.specs.Steps.{MayOwn}
 use Rattle.seg_tree.proofs.Owning.{fresh_added, still_owned, still_null}
+use Rattle.seg_tree.proofs.BlockCounts.{at_most, more_at_most}
 use Rattle.seg_tree.proofs.steps.add_child.Goals as goal
 
 pub put_key-requires-clause-owned : goal.put_key-requires-clause-owned
@@ -33,3 +34,7 @@ returns-clause-fresh g c to tree =
     let may_own : MayOwn (forest_of k0) c.args.node.0 c.args.digit c.args.height to = subst (λ o. MayOwn (forest_of k0) c.args.node.0 c.args.digit c.args.height o) is may.2 in
     fresh_added k0 k1 k2 c.args.node.0 c.args.digit c.args.height c.take_tree_node-fresh.result to may_own c.requires.empty
     (c.take_tree_node-fresh.ensures.taken to tree) c.put_key.ensures.put
+
+pub returns-clause-blocks : goal.returns-clause-blocks
+returns-clause-blocks g c = 
+    more_at_most 21 (omega arith) c.take_tree_node-fresh.ensures.blocks (at_most 1 (omega arith) c.put_key.ensures.blocks)

@@ -1,8 +1,9 @@
-use Rattle.std.proofs.Common.{◌≡◌, Some, sym, subst, ◌∙◌}
+use Rattle.std.proofs.Common.{arith, ◌≡◌, Some, sym, subst, ◌∙◌}
 use Rattle.kernel_tables.specs.Kernel.{kernel_of}
 use Rattle.kernel_forest.specs.Trees.{IsTreeKey, forest_of}
 use Rattle.seg_tree.specs.Steps.{MayOwn}
 use Rattle.seg_tree.proofs.Owning.{may_copy_child, node_still_owned, still_stands, child_still_owned, still_two, fresh_copied}
+use Rattle.seg_tree.proofs.BlockCounts.{at_most, more_at_most}
 use Rattle.seg_tree.proofs.steps.copy_child.Goals as goal
 
 pub copy_keys-requires-clause-may : goal.copy_keys-requires-clause-may
@@ -64,3 +65,9 @@ returns-clause-fresh g c to tree =
     let may_own : MayOwn (forest_of k0) c.args.node.0 c.args.digit c.args.height to = subst (λ o. MayOwn (forest_of k0) c.args.node.0 c.args.digit c.args.height o) is may.2 in
     fresh_copied k0 k1 k2 k3 k4 c.args.node.0 c.args.digit c.args.height c.args.child c.take_tree_node-fresh.result to may_own c.requires.stands c.requires.shared
     (c.take_tree_node-fresh.ensures.taken to tree) c.copy_keys.ensures.copied c.put_key.ensures.put (c.lower_key.ensures.lowered c.args.height)
+
+pub returns-clause-blocks : goal.returns-clause-blocks
+returns-clause-blocks g c = 
+    more_at_most 21 (omega arith) c.take_tree_node-fresh.ensures.blocks
+    (more_at_most 19 (omega arith) c.copy_keys.ensures.blocks
+    (more_at_most 2 (omega arith) (at_most 1 (omega arith) c.put_key.ensures.blocks) c.lower_key.ensures.blocks))

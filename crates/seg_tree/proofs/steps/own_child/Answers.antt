@@ -8,6 +8,7 @@ use Rattle.kernel_forest.specs.Trees.{forest_of}
 use Rattle.seg_tree.specs.Steps.{segment_of, kept_child}
 use Rattle.kernel_forest.proofs.Moves.{node_shares}
 use Rattle.seg_tree.proofs.Owning.{segment_some, named_owned}
+use Rattle.seg_tree.proofs.BlockCounts.{none_at_most}
 use Rattle.seg_tree.proofs.steps.own_child.Goals as goal
 
 pub copy_child-requires-clause-shared : goal.copy_child-requires-clause-shared
@@ -31,3 +32,9 @@ returns-then-node_count-eq1-clause-own g c to tree =
     (ap segment_of (sym c.tree_key.ensures) ∙ sym c.segment_of.ensures ∙ c.in-Some.is) in
     let one : (forest_of k0).count (NodeObject c.in-Some.child.0) ≡ 1 = node_shares k0 c.in-Some.child.0 (named_owned (forest_of k0) c.args.node.0 c.args.digit c.args.height may.0 c.in-Some.child may.2 stands) ∙ sym c.node_count.ensures ∙ c.if-node_count-eq1.true in
     kept_child (counted_once (forest_of k0) (at (forest_of k0).keys (place_of c.args.node.0 c.args.digit)) (NodeObject c.in-Some.child.0) (ap named stands) one) (ap named stands) refl
+
+pub returns-then-node_count-eq1-clause-blocks : goal.returns-then-node_count-eq1-clause-blocks
+returns-then-node_count-eq1-clause-blocks g c = none_at_most 21
+
+pub returns-else-node_count-eq1-clause-blocks : goal.returns-else-node_count-eq1-clause-blocks
+returns-else-node_count-eq1-clause-blocks g c = c.copy_child.ensures.blocks

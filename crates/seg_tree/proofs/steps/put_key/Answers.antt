@@ -1,5 +1,6 @@
 use Rattle.kernel_tables.specs.Kernel.{kernel_of}
 use Rattle.kernel_forest.proofs.Moves.{puts_key, node_below, node_used}
+use Rattle.seg_tree.proofs.BlockCounts.{at_most}
 use Rattle.seg_tree.proofs.steps.put_key.Goals as goal
 
 pub returns-clause-put : goal.returns-clause-put
@@ -12,3 +13,6 @@ write_key-requires-clause-inside g c = node_below (kernel_of (g.T.Store.memory c
 
 pub write_key-requires-clause-used : goal.write_key-requires-clause-used
 write_key-requires-clause-used g c = node_used (kernel_of (g.T.Store.memory c.args.store.now)) c.args.node.0 c.requires.owned
+
+pub returns-clause-blocks : goal.returns-clause-blocks
+returns-clause-blocks g c = c.write_key.ensures.blocks

@@ -6,6 +6,7 @@ use Rattle.kernel_forest.specs.Trees.{page_tree}
 use Rattle.kernel_forest.specs.Moves.{RaisesKey}
 use Rattle.kernel_forest.proofs.Bridge.{page_inside, tree_taken}
 use Rattle.kernel_forest.proofs.Moves.{may_raise_page, may_raise_node, node_shares, page_shares, bank_page, node_below, node_taken, raises_node, raises_page, raises_nothing, unnamed_zero, neither}
+use Rattle.seg_tree.proofs.BlockCounts.{at_most, none_at_most}
 use Rattle.seg_tree.proofs.steps.raise_key.Goals as goal
 
 pub raise_page-requires-clause-page : goal.raise_page-requires-clause-page
@@ -74,4 +75,13 @@ returns-in-Segment-clause-raised g c =
 pub returns-in_default : goal.returns-in_default
 returns-in_default g c =
     let kernel = kernel_of (g.T.Store.memory c.args.store.now) in
-    record { raised = raises_nothing kernel c.args.key (neither c.args.key c.in_default.not-Page c.in_default.not-Segment) c.requires.of_tree; good = c.requires.good; keeps = g.met.T.Store.keeps_same c.args.store.now }
+    record { raised = raises_nothing kernel c.args.key (neither c.args.key c.in_default.not-Page c.in_default.not-Segment) c.requires.of_tree; good = c.requires.good; blocks = none_at_most 1; keeps = g.met.T.Store.keeps_same c.args.store.now }
+
+pub returns-then-id-ne0-clause-blocks : goal.returns-then-id-ne0-clause-blocks
+returns-then-id-ne0-clause-blocks g c = at_most 1 (omega arith) c.raise_page.ensures.blocks
+
+pub returns-else-id-ne0-clause-blocks : goal.returns-else-id-ne0-clause-blocks
+returns-else-id-ne0-clause-blocks g c = none_at_most 1
+
+pub returns-in-Segment-clause-blocks : goal.returns-in-Segment-clause-blocks
+returns-in-Segment-clause-blocks g c = at_most 1 (omega arith) c.raise_node.ensures.blocks
