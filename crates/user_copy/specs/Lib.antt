@@ -1,3 +1,4 @@
 -- in reading order
 pub mod SpaceMemory
 pub mod Taking
+pub mod Writing
