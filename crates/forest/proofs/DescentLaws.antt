@@ -291,7 +291,7 @@ unfolding node_way digits
 page_top page below = omega arith
 
 -- a way stays own where a key is written below its end
-own_kept : (forest : Forest) (space node digit : ℕ) (way : List ℕ) (key : Key) → OwnEnd forest.keys space way node → digit < 16
+pub own_kept : (forest : Forest) (space node digit : ℕ) (way : List ℕ) (key : Key) → OwnEnd forest.keys space way node → digit < 16
     → (w : List ℕ) → IsWay w → length w ≤ length way → OwnWay forest space w → OwnWay (with_key forest (place_of node digit) key) space w
 own_kept forest space node digit way key end below [] is short own = tt
 own_kept forest space node digit way key end below (d ∷ w) is short own =

@@ -19,7 +19,7 @@ use Rattle.forest.proofs.CopyLaws.{copy_makes_own}
 use Rattle.forest.proofs.DescentLaws.{leaf_names_page, AtEnd, descend, shorter_top}
 
 -- a node whose keys have not changed, but for one that is no key of it
-filled_still : (keys : ℕ → Key) (place : ℕ) (key : Key) (node : ℕ) → node ≢ place / 16 → IsFilled keys node → IsFilled (with_at keys place key) node
+pub filled_still : (keys : ℕ → Key) (place : ℕ) (key : Key) (node : ℕ) → node ≢ place / 16 → IsFilled keys node → IsFilled (with_at keys place key) node
 filled_still keys place key node apart f =
     let below = f.1 in
     (f.0, f.1, λ e. f.2 (sym (at-with_at-other keys place (place_of node f.0) key (λ t. apart (let is : node ≡ place / 16 = omega arith in is))) ∙ e))
@@ -37,7 +37,7 @@ write_fills keys node digit key but below fits real place m h = ⊎_elim
     (cases_eq place (place_of node digit))
 
 -- what names a node after a key was taken away named it before
-named_before : (keys : ℕ → Key) (taken place m : ℕ) → named (at (with_at keys taken Null) place) ≡ Some (NodeObject m)
+pub named_before : (keys : ℕ → Key) (taken place m : ℕ) → named (at (with_at keys taken Null) place) ≡ Some (NodeObject m)
     → (place ≢ taken) × (named (at keys place) ≡ Some (NodeObject m))
 named_before keys taken place m h = ⊎_elim
     (λ (t : place ≡ taken). absurd (

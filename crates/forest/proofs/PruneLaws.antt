@@ -39,11 +39,11 @@ module _ (forest : Forest) (outside : Object → ℕ) (hand : List Key) (place n
         (fits.0, tt);
   }
 
-  taken_out : Held (with_key forest place Null) outside (at forest.keys place ∷ hand)
+  pub taken_out : Held (with_key forest place Null) outside (at forest.keys place ∷ hand)
   taken_out = write_keeps_held forest outside hand place Null with_null may
       (record { same_owner = λ object h. absurd (let contra : None ≡ Some object = h in cc); heights = λ digit below. tt })
 
-  still_empty : (digit : ℕ) → digit < 16 → at (with_at forest.keys place Null) (place_of node digit) ≡ Null
+  pub still_empty : (digit : ℕ) → digit < 16 → at (with_at forest.keys place Null) (place_of node digit) ≡ Null
   still_empty digit below = ⊎_elim
       (λ (t : place_of node digit ≡ place). ap (at (with_at forest.keys place Null)) t ∙ at-with_at forest.keys place Null)
       (λ (t : place_of node digit ≢ place). at-with_at-other forest.keys place (place_of node digit) Null t ∙ empty digit below)

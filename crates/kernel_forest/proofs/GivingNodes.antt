@@ -151,13 +151,13 @@ module _ (old new : Kernel) (node : NodeId) (height : ℕ) (good : BankGood old)
       ∙ ap (λ o. masked o (key_table old.keys)) owners
       ∙ masked_owners (forest_of old).owner (key_table old.keys) (NodeObject node.0) None (null_there old.keys node.0 table_null)
 
-  now : new ≡ node_given old node.0 → forest_of new ≡ with_given (forest_of old) (NodeObject node.0)
-  now e = ap forest_of e ∙ rw (masked_same, owners, fun_ext (given_count (first_page old.size) old.page_entries old.node_entries node.0 old.machine.free_node inside)) refl
+  pub given_forest : new ≡ node_given old node.0 → forest_of new ≡ with_given (forest_of old) (NodeObject node.0)
+  given_forest e = ap forest_of e ∙ rw (masked_same, owners, fun_ext (given_count (first_page old.size) old.page_entries old.node_entries node.0 old.machine.free_node inside)) refl
 
   pub lets_node_given : new ≡ node_given old node.0 → TakesNodeOutOfHand old new node.0 → Lets old new (Segment node height ∷ []) []
   lets_node_given e takes =
       lets_step old new (Segment node height) (with_given (forest_of old) (NodeObject node.0))
-      (now e)
+      (given_forest e)
       (λ outside. ap (λ k. outside_trees k outside) e
       ∙ ap (λ trees. outside_by old.nodes (key_table (overwritten old.keys (16 * node.0) (replicate 16 (Some Null)))) trees outside) masked_same
       ∙ ap (λ t. outside_by old.nodes t (forest_of old).keys outside) table_same)
@@ -168,7 +168,7 @@ module _ (old new : Kernel) (node : NodeId) (height : ℕ) (good : BankGood old)
       (λ other. refl))
       (λ m place own low. ap (λ (t : ℕ → Key). t (16 * m + place)) table_same)))
       (subst (λ (k : Kernel). KeepsUnreleased old k) (sym e) refl)
-      (keeps_bytes old new (with_given (forest_of old) (NodeObject node.0)) (now e) (λ object some. given_fewer (forest_of old).owner (NodeObject node.0) object some) (λ page. ap (λ (k : Kernel). bank_page k page) e))
+      (keeps_bytes old new (with_given (forest_of old) (NodeObject node.0)) (given_forest e) (λ object some. given_fewer (forest_of old).owner (NodeObject node.0) object some) (λ page. ap (λ (k : Kernel). bank_page k page) e))
       (λ outside hand counted. takes.nothing outside hand (Segment node height) (eq-eqb node.0 node.0 refl) (nothing_at old) counted)
       (λ outside hand r. empty_step (Segment node height) node.0 refl once nulls)
     where

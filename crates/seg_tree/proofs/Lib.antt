@@ -1,9 +1,11 @@
+pub mod Emptiness
 pub mod BlockCounts
 pub mod Copying
 pub mod Children
 pub mod Owning
 pub mod Levels
 pub mod Walking
+pub mod PruneWays
 pub mod Mapping
 pub mod OwnPages
 pub mod Adding
@@ -12,4 +14,5 @@ pub mod PageCopies
 pub mod Sharing
 pub mod Replacing
 pub mod Making
+pub mod Cutting
 pub mod Counting

@@ -57,7 +57,7 @@ digits_four : (page : ℕ) → length (digits 4 (page / 16)) ≡ 4
 digits_four page = ap length (sym (node_way-digits page)) ∙ length-node_way page
 
 -- no node is empty where the last one has a key
-filled_last : (keys : ℕ → Key) (node : ℕ) → NoneEmptyBut keys node → IsFilled keys node → NoneEmpty keys
+pub filled_last : (keys : ℕ → Key) (node : ℕ) → NoneEmptyBut keys node → IsFilled keys node → NoneEmpty keys
 filled_last keys node but here place other h = ⊎_elim
     (λ (t : other ≡ node). subst (IsFilled keys) (sym t) here)
     (λ (t : other ≢ node). but place other h t)

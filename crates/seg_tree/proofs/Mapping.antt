@@ -10,18 +10,18 @@ use Rattle.space_bank.specs.Shares.{Outside}
 use Rattle.unix_model.specs.Tables.{at, with_at}
 use Rattle.forest.specs.Objects.{Object, NodeObject, Owner, named, names}
 use Rattle.forest.specs.Walks.{place_of, key_along, space_key, IsWay, digits, map_of, mapping_of, Mapping}
-use Rattle.forest.specs.Forest.{Forest, Held, IsSpace, FitsUnder, EndsAt, node_way, top_digit}
+use Rattle.forest.specs.Forest.{Forest, Held, IsSpace, FitsUnder, EndsAt, OwnWay, NoneEmptyBut, node_way, top_digit}
 use Rattle.forest.specs.Descent.{MadeOwn, IsMadeOwn, root, kept, copied}
 use Rattle.forest.specs.Calls.{ChangesMap}
 use Rattle.forest.proofs.CallLaws.{call_changes_map}
-use Rattle.forest.proofs.DescentLaws.{changes_one_page}
+use Rattle.forest.proofs.DescentLaws.{changes_one_page, own_kept}
 use Rattle.forest.specs.Release.{Release}
 use Rattle.forest.specs.Objects.{PageObject, with_object}
 use Rattle.kernel_forest.specs.Releases.{Releasing, Lets}
 use Rattle.kernel_forest.proofs.InTrees.{released_in_trees}
 use Rattle.seg_tree.specs.Leaves.{PutsLeaf}
 use Rattle.forest.proofs.CopyLaws.{end_owned}
-use Rattle.forest.proofs.OwnMaps.{page_way-parts, length-node_way, way_of_node}
+use Rattle.forest.proofs.OwnMaps.{page_way-parts, length-node_way, way_of_node, OwnEnd, own_end, short_way}
 use Rattle.forest.proofs.ReleaseLaws.{no_name}
 use Rattle.kernel_forest.specs.Trees.{forest_of, outside_trees, IsTreeKey, TreesGood}
 use Rattle.kernel_forest.specs.Moves.{PutsKey}
@@ -29,6 +29,7 @@ use Rattle.seg_tree.specs.Steps.{Descends}
 use Rattle.kernel_forest.proofs.Moves.{uncounted_in_hand}
 use Rattle.seg_tree.proofs.Copying.{rest_trans}
 use Rattle.seg_tree.proofs.Children.{fits_tree}
+use Rattle.seg_tree.proofs.PruneWays.{leaf_written}
 use Rattle.seg_tree.proofs.Levels.{Begins, under_way, below_end}
 use Rattle.forest.proofs.DescentLaws.{makes_way_own}
 use Rattle.forest.proofs.ThinLaws.{held_nothing}
@@ -181,6 +182,29 @@ module _ (old mid : Kernel) (outside : Outside) (space page node : ℕ) (to : Ow
         starts.trees.held starts.is_space owner way (omega (arith, long)) (page_top page below) d.made d.ends filled in
         subst (λ (f : Forest). NoneEmpty f.keys) (sym puts.steps.forest_now) (write_fills (forest_of mid).keys node (page % 16) key last (omega arith) fits some)
 
+    mid_way : OwnWay (forest_of mid) space (node_way page)
+    mid_way = subst (OwnWay (forest_of mid) space) (sym (node_way-digits page)) made.own
+
+    mid_end : OwnEnd (forest_of mid).keys space (node_way page) node
+    mid_end = own_end (forest_of mid) (outside_trees mid outside) (key ∷ []) space node (node_way page) d.trees.held.sound d.trees.held.exact here_space (way_of_node page) mid_way ends_way
+
+    put_own : OwnWay (forest_of put) space (node_way page)
+    put_own = subst (λ f. OwnWay f space (node_way page)) (sym puts.steps.forest_now)
+        (own_kept (forest_of mid) space node (page % 16) (node_way page) key mid_end (omega arith) (node_way page) (way_of_node page) (omega arith) mid_way)
+
+    put_ends : EndsAt (forest_of put).keys space (node_way page) (NodeObject node)
+    put_ends = subst (λ (f : Forest). EndsAt f.keys space (node_way page) (NodeObject node)) (sym puts.steps.forest_now)
+        (ap named (short_way (forest_of mid).keys space node (page % 16) (node_way page) key mid_end (omega arith) space mid_end.free (node_way page) (way_of_node page) (omega arith)) ∙ ends_way)
+
+    put_but : NoneEmpty (forest_of old).keys → NoneEmptyBut (forest_of put).keys node
+    put_but filled =
+        let last = descent_leaves_last_empty (outside_trees old outside) (key ∷ []) space to (forest_of old) (forest_of mid) (digits 4 (page / 16)) d.taken node
+        starts.trees.held starts.is_space owner way (omega (arith, long)) (page_top page below) d.made d.ends filled in
+        subst (λ (f : Forest). NoneEmptyBut f.keys node) (sym puts.steps.forest_now) (leaf_written (forest_of mid).keys node (page % 16) key last (omega arith) fits)
+
+    put_owners : (object : Object) → IsSome ((forest_of old).owner object) → (forest_of put).owner object ≡ (forest_of old).owner object
+    put_owners object some = ap (λ (f : Forest). f.owner object) puts.steps.forest_now ∙ made.owners object some
+
     put_most : put.machine.nodes_taken ≤ old.machine.nodes_taken + 4
     put_most = let a = puts.steps.number in let b = d.number in let c = d.few in omega (arith, long)
 
@@ -208,6 +232,11 @@ puts_leaf old mid put space page node to key fits below is_space owner owners kn
       hand = λ outside trees. released_hand old mid outside space page node to key fits below trees is_space owner owners (descends outside trees) put puts;
       after = λ outside trees new lets. remapped old mid outside space page node to key fits below trees is_space owner owners (descends outside trees) put puts new lets;
       filled = put_filled old mid known space page node to key fits below known_trees is_space owner owners d put puts;
+      own = put_own old mid known space page node to key fits below known_trees is_space owner owners d put puts;
+      node = node;
+      ends = put_ends old mid known space page node to key fits below known_trees is_space owner owners d put puts;
+      but = put_but old mid known space page node to key fits below known_trees is_space owner owners d put puts;
+      owners = put_owners old mid known space page node to key fits below known_trees is_space owner owners d put puts;
       outside_now = outside_is old mid known space page node to key fits below known_trees is_space owner owners d put puts;
       rows_now = λ mine apart. puts.steps.rows_now mine apart ∙ d.rows_now mine apart;
       pages_now = λ number. ap (λ (f : Forest). f.owner (PageObject number)) puts.steps.forest_now ∙ made_pages d.made number;

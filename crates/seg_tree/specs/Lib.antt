@@ -5,3 +5,4 @@ pub mod Releases
 pub mod Blocks
 pub mod Promises
 pub mod Writes
+pub mod Prunes

@@ -7,6 +7,7 @@
 mod count;
 mod descent;
 mod leaf;
+mod pruning;
 mod release;
 mod spaces;
 mod steps;
@@ -14,6 +15,7 @@ mod walk;
 mod writing;
 
 pub use count::mapped;
+pub use pruning::unmap;
 pub use release::drop_space;
 pub use spaces::{Space, map_zero, new_space, protect, share};
 pub use walk::{Found, find};
