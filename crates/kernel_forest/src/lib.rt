@@ -7,8 +7,8 @@ mod counts;
 mod releases;
 
 pub use changes::{
-    counts_node_less, counts_page_less, gives_domain_node, raises_tree_node, raises_tree_page, takes_domain_node,
-    takes_tree_node, takes_tree_page, writes_row, writes_tree_key,
+    counts_node_less, counts_page_less, gives_domain_node, raises_tree_node, raises_tree_page,
+    takes_domain_node, takes_tree_node, takes_tree_page, writes_row, writes_tree_key,
 };
 pub use counts::{bank_is_exact, empty_is_good, root_is_single, space_handed_out, untaken_is_good};
 pub use releases::{gives_node, gives_page, lowers_node, lowers_page};

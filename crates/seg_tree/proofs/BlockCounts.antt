@@ -1,9 +1,8 @@
 -- How many blocks change, from step to step.
-use Rattle.std.proofs.Common.{inl, inr, ⊎_elim, ◌≡◌, ◌≤◌, ◌+◌, ℕ, List, [], ◌∷◌, ◌++◌, length, refl, subst, sym, arith, append-nil}
+use Rattle.std.proofs.Common.{inl, inr, ⊎_elim, ◌≤◌, ◌+◌, ℕ, List, [], ◌∷◌, ◌++◌, length, arith}
 use Rattle.std.proofs.lemmas.List.{length-append}
-use Rattle.kernel_tables.specs.Blocks.{IsAmong, ChangesBlocks, key_block}
+use Rattle.kernel_tables.specs.Blocks.{IsAmong, ChangesBlocks}
 use Rattle.kernel_tables.proofs.BlockLaws.{no_block, both_change}
-use Rattle.kernel_tables.specs.Kernel.{Kernel}
 use Rattle.seg_tree.specs.Blocks.{ChangesBeside, ChangesAtMost}
 
 among_left : (block : ℕ) (some others : List ℕ) → IsAmong block some → IsAmong block (some ++ others)

@@ -1,22 +1,22 @@
 -- Empty nodes are taken out of a tree, from below upwards.
-use Rattle.std.proofs.Common.{◌≡◌, ◌≢◌, ◌<◌, ◌≤◌, ◌+◌, ◌-◌, ◌*◌, ◌/◌, ◌%◌, ◌^◌, ◌↔◌, ◌==◌, ℕ, Option, Some, None, List, [], ◌∷◌, refl, ap, sym, subst, ◌∙◌, arith, ⊎_elim, add-zero}
+use Rattle.std.proofs.Common.{◌≡◌, ◌≢◌, ◌<◌, ◌≤◌, ◌+◌, ◌-◌, ◌*◌, ◌/◌, ◌%◌, ◌↔◌, ◌==◌, ℕ, Some, None, [], ◌∷◌, refl, ap, sym, subst, ◌∙◌, arith, ⊎_elim}
 use Rattle.std.specs.Option.{is_some, IsSome}
-use Rattle.std.proofs.lemmas.Bool.{cases_eq, cases_lt}
+use Rattle.std.proofs.lemmas.Bool.{cases_lt}
 use Rattle.kn_base.specs.declared.key.Key.{Key}
 use Rattle.kn_base.specs.declared.key.Key.TheVariants.{Null, Page, Segment}
 use Rattle.kn_base.specs.declared.key.NodeId.{NodeId}
-use Rattle.kernel_tables.specs.Kernel.{Kernel, IsBankPage, bank_page, first_page}
+use Rattle.kernel_tables.specs.Kernel.{Kernel, IsBankPage, bank_page}
 use Rattle.kernel_tables.specs.Rows.{key_table, entry_at}
 use Rattle.space_bank.specs.Bank.{BankGood, IsTakenOnce, node_given}
 use Rattle.space_bank.specs.Shares.{Outside, TakesNodeOutOfHand, node_places}
 use Rattle.unix_model.specs.Tables.{at, with_at}
-use Rattle.forest.specs.Objects.{Object, PageObject, NodeObject, Owner, named}
+use Rattle.forest.specs.Objects.{Object, PageObject, NodeObject, named}
 use Rattle.forest.specs.Walks.{place_of, key_along, space_key, digits, map_of}
-use Rattle.forest.specs.Forest.{Forest, Held, Sound, IsSpace, EndsAt, OwnWay, NoneEmpty, NoneEmptyBut, IsFilled, FitsUnder, key_height, namings, node_way}
-use Rattle.forest.specs.Changes.{with_key, with_given}
+use Rattle.forest.specs.Forest.{Forest, Held, Sound, IsSpace, EndsAt, OwnWay, NoneEmpty, NoneEmptyBut, key_height, namings, node_way}
+use Rattle.forest.specs.Changes.{with_given}
 use Rattle.forest.specs.Calls.{ChangesMap}
 use Rattle.forest.proofs.WalkLaws.{step}
-use Rattle.forest.proofs.ExactLaws.{with_object-here, nobody_counted}
+use Rattle.forest.proofs.ExactLaws.{nobody_counted}
 use Rattle.forest.proofs.HeldLaws.{other_object}
 use Rattle.forest.proofs.OwnLaws.{owned_node, owned_object}
 use Rattle.forest.proofs.MapLaws.{page_no_node}
@@ -29,7 +29,7 @@ use Rattle.kernel_forest.specs.Releases.{Releasing, InHand, Lets}
 use Rattle.kernel_forest.proofs.InTrees.{AllTreeKeys, AllSingle, written_in_trees}
 use Rattle.kernel_forest.proofs.Giving.{given_fewer}
 use Rattle.kernel_forest.proofs.GivingNodes.{unreleased, same_bytes, give_within, give_once, give_unnamed, given_forest, lets_node_given}
-use Rattle.kernel_forest.proofs.Moves.{uncounted_in_hand, tree_place, node_below}
+use Rattle.kernel_forest.proofs.Moves.{uncounted_in_hand, tree_place}
 use Rattle.seg_tree.specs.Leaves.{PutsLeaf}
 use Rattle.seg_tree.specs.Prunes.{TakesOff, Prunes, Unmaps}
 use Rattle.seg_tree.proofs.Emptying.{unreleased_trans}

@@ -1,4 +1,5 @@
 pub mod Emptiness
+pub mod Forms
 pub mod BlockCounts
 pub mod Copying
 pub mod Children

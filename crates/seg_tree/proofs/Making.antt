@@ -1,10 +1,9 @@
 -- The page at a page number is made a space's own: nothing changes where it was, and else a copy is put in its place.
-use Rattle.std.proofs.Common.{◌≡◌, ◌≢◌, ◌<◌, ◌≤◌, ◌+◌, ◌-◌, ◌*◌, ◌/◌, ◌%◌, ◌^◌, ◌==◌, ◌&&◌, not, if◌then◌else◌, ◌↔◌, ℕ, Bool, true, false, Option, Some, None, List, [], ◌∷◌, length, refl, ap, sym, subst, ◌∙◌, arith, ⊎_elim}
+use Rattle.std.proofs.Common.{◌≡◌, ◌≢◌, ◌<◌, ◌≤◌, ◌+◌, ◌/◌, ◌%◌, ◌^◌, ◌==◌, ◌&&◌, not, ◌↔◌, ℕ, Bool, true, false, Option, Some, None, [], ◌∷◌, length, refl, ap, sym, subst, ◌∙◌, arith, ⊎_elim}
 use Rattle.std.specs.Option.{is_some, IsSome}
 use Rattle.std.proofs.lemmas.Bool.{cases_lt, cases_eq, ne_eqb, eq-eqb, eqb-true}
 use Rattle.kn_base.specs.declared.key.Key.{Key}
-use Rattle.kn_base.specs.declared.key.Key.TheVariants.{Null, Page, Segment}
-use Rattle.kn_base.specs.declared.key.PageId.{PageId}
+use Rattle.kn_base.specs.declared.key.Key.TheVariants.{Null}
 use Rattle.kernel_tables.specs.declared.entry.PageOwner.{PageOwner}
 use Rattle.kernel_tables.specs.Kernel.{Kernel, IsBankPage, bank_page, memory_page, first_page}
 use Rattle.space_bank.specs.Bank.{BankGood}
@@ -13,12 +12,10 @@ use Rattle.unix_model.specs.Tables.{at, with_at}
 use Rattle.unix_model.proofs.TableLaws.{with_at-same}
 use Rattle.forest.specs.Objects.{Object, PageObject, NodeObject, Owner, named}
 use Rattle.forest.specs.Walks.{place_of, key_along, space_key, IsWay, digits, page_way, map_of, mapping_of, Mapping}
-use Rattle.forest.specs.Forest.{Forest, Held, IsSpace, FitsUnder, EndsAt, OwnWay, CountedOnce, NoneEmpty, NoneEmptyBut, IsFilled, node_way, top_digit}
+use Rattle.forest.specs.Forest.{Forest, Held, IsSpace, FitsUnder, EndsAt, OwnWay, NoneEmpty, NoneEmptyBut, IsFilled, node_way}
 use Rattle.forest.specs.Changes.{IsFree}
 use Rattle.forest.specs.Descent.{IsMadeOwn}
 use Rattle.forest.specs.Calls.{ChangesMap, IsOwn}
-use Rattle.forest.proofs.HeldLaws.{other_object}
-use Rattle.forest.proofs.ExactLaws.{with_object-here}
 use Rattle.forest.proofs.ReleaseLaws.{is_or_not}
 use Rattle.forest.proofs.OwnLaws.{owned_object}
 use Rattle.forest.proofs.OwnMaps.{page_way-parts, length-node_way, way_of_node}
@@ -32,23 +29,17 @@ use Rattle.kernel_forest.specs.Moves.{KeepsRest}
 use Rattle.kernel_forest.proofs.GivingNodes.{unreleased, same_bytes}
 use Rattle.kernel_forest.proofs.InTrees.{AllTreeKeys, AllSingle, written_in_trees}
 use Rattle.seg_tree.specs.Steps.{Descends}
-use Rattle.seg_tree.specs.Writes.{page_key, writable_mapping, may_write, leaf_copied, CopiesLeaf, TakesOne, Owns}
+use Rattle.seg_tree.specs.Writes.{page_key, writable_mapping, leaf_copied, CopiesLeaf, Owns}
 use Rattle.seg_tree.proofs.Emptying.{unreleased_trans}
 use Rattle.seg_tree.proofs.Levels.{below_end}
 use Rattle.seg_tree.proofs.Mapping.{page_top, node_way-digits, map_here, made_pages}
-use Rattle.seg_tree.proofs.OwnPages.{IsMany, with_page, changed, own_now, is_own, changes, keys_now, page_owner_now, other_owner_now, space_before, space_after}
+use Rattle.seg_tree.proofs.OwnPages.{IsMany, changed, is_own, changes, keys_now, page_owner_now, other_owner_now, space_before, space_after}
 use Rattle.seg_tree.proofs.PageCopies.{in_use}
-use Rattle.seg_tree.proofs.Replacing.{page_or_zero}
+use Rattle.seg_tree.proofs.Replacing.{mapped_key}
 
 -- the key of a page that may be written
 key_mapped : (key : Key) (page : ℕ) → mapping_of key ≡ Some (writable_mapping page) → key ≡ page_key page
-key_mapped (Page id writable) page h =
-    let may : writable ≡ true = ap may_write h in
-    let number : id.0 ≡ page = ap page_or_zero h in
-    rw may (ap (λ n. Page (record { 0 = n }) true) number)
-key_mapped Null page h = cc
-key_mapped (Segment node height) page h = cc
-key_mapped _ page h = cc
+key_mapped key page h = mapped_key key true (record { 0 = page }) h
 
 page_named : (page : ℕ) → page ≢ 0 → named (page_key page) ≡ Some (PageObject page)
 page_named page real = rw (ne_eqb page 0 real) refl
@@ -302,8 +293,8 @@ module _ (old mid : Kernel) (space page node found : ℕ) (to : Owner) (below : 
             λ is. subst (λ g. IsSpace g [] other) (sym c.takes.forest_now)
                 (space_after (forest_of mid) (outside_trees mid known) space page node fresh to here.trees.held here.is_space here.owner below here.above here.ends f real is_many other ((here.spaces other).0 is)),
             λ is. (here.spaces other).1 (
-              space_before (forest_of mid) (outside_trees mid known) space page node fresh to here.trees.held here.is_space here.owner below here.above here.ends f real is_many fits other
-                  (subst (λ g. IsSpace g [] other) c.takes.forest_now is)),
+                space_before (forest_of mid) (outside_trees mid known) space page node fresh to here.trees.held here.is_space here.owner below here.above here.ends f real is_many fits other
+                (subst (λ g. IsSpace g [] other) c.takes.forest_now is)),
           );
           own = subst (λ g. IsOwn g space page (writable_mapping fresh)) (sym c.takes.forest_now)
               (is_own (forest_of mid) (outside_trees mid known) space page node fresh to here.trees.held here.is_space here.owner below here.above here.ends f real is_many);
@@ -321,6 +312,7 @@ module _ (old mid : Kernel) (space page node found : ℕ) (to : Owner) (below : 
               absurd (not_single one.0 one.1);
           copied = λ no. record {
             unowned = sym (made_pages d.made fresh) ∙ c.takes.unowned;
+            unnamed = λ outside all. ap (λ (out : Object → ℕ). out (PageObject fresh)) (sym (d.outside_now outside)) ∙ (free outside all).none_outside;
             owned = owned ∙ sym tree;
             number = c.takes.pages ∙ ap (λ (k : Kernel). k.machine.pages_taken + 1) d.rest;
           };
@@ -332,8 +324,11 @@ pub is_once : (kernel : Kernel) (page : ℕ) (test : Bool) → test ≡ (not (pa
     → (page ≢ 0) × ((forest_of kernel).count (PageObject page) ≡ 1)
 is_once kernel page test is told = ⊎_elim
     (λ (t : page ≡ 0). absurd (let no : false ≡ true = ap (λ b. not b && ((forest_of kernel).count (PageObject page) == 1)) (sym (eq-eqb page 0 t)) ∙ sym is ∙ told in cc))
-    (λ (t : page ≢ 0). (t, eqb-true ((forest_of kernel).count (PageObject page)) 1
-    (ap (λ b. not b && ((forest_of kernel).count (PageObject page) == 1)) (sym (ne_eqb page 0 t)) ∙ sym is ∙ told)))
+    (λ (t : page ≢ 0). (
+      t,
+      eqb-true ((forest_of kernel).count (PageObject page)) 1
+          (ap (λ b. not b && ((forest_of kernel).count (PageObject page) == 1)) (sym (ne_eqb page 0 t)) ∙ sym is ∙ told),
+    ))
     (cases_eq page 0)
 
 pub not_once : (kernel : Kernel) (page : ℕ) (test : Bool) → test ≡ (not (page == 0) && ((forest_of kernel).count (PageObject page) == 1)) → test ≡ false

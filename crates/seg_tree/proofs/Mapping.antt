@@ -8,6 +8,7 @@ use Rattle.kn_base.specs.declared.key.PageId.{PageId}
 use Rattle.kernel_tables.specs.Kernel.{Kernel}
 use Rattle.space_bank.specs.Shares.{Outside}
 use Rattle.unix_model.specs.Tables.{at, with_at}
+use Rattle.unix_model.proofs.TableLaws.{at-with_at}
 use Rattle.forest.specs.Objects.{Object, NodeObject, Owner, named, names}
 use Rattle.forest.specs.Walks.{place_of, key_along, space_key, IsWay, digits, map_of, mapping_of, Mapping}
 use Rattle.forest.specs.Forest.{Forest, Held, IsSpace, FitsUnder, EndsAt, OwnWay, NoneEmptyBut, node_way, top_digit}
@@ -232,6 +233,8 @@ puts_leaf old mid put space page node to key fits below is_space owner owners kn
       hand = λ outside trees. released_hand old mid outside space page node to key fits below trees is_space owner owners (descends outside trees) put puts;
       after = λ outside trees new lets. remapped old mid outside space page node to key fits below trees is_space owner owners (descends outside trees) put puts new lets;
       filled = put_filled old mid known space page node to key fits below known_trees is_space owner owners d put puts;
+      place = place_of node (page % 16);
+      stands = ap (λ (f : Forest). at f.keys (place_of node (page % 16))) puts.steps.forest_now ∙ at-with_at (forest_of mid).keys (place_of node (page % 16)) key;
       own = put_own old mid known space page node to key fits below known_trees is_space owner owners d put puts;
       node = node;
       ends = put_ends old mid known space page node to key fits below known_trees is_space owner owners d put puts;

@@ -1,16 +1,15 @@
 -- A page that is counted elsewhere too is copied: the fresh page is put in its place, on a way that is this space's own.
-use Rattle.std.proofs.Common.{◌≡◌, ◌≢◌, ◌<◌, ◌≤◌, ◌+◌, ◌-◌, ◌*◌, ◌/◌, ◌%◌, ◌^◌, ◌==◌, if◌then◌else◌, ℕ, Bool, true, false, Option, Some, None, List, [], ◌∷◌, length, refl, ap, sym, subst, ◌∙◌, arith, ⊎_elim, ◌↔◌}
-use Rattle.std.specs.Option.{is_some, IsSome}
-use Rattle.std.proofs.lemmas.Bool.{cases_lt, cases_eq, ne_eqb}
+use Rattle.std.proofs.Common.{◌≡◌, ◌≢◌, ◌<◌, ◌≤◌, ◌-◌, ◌%◌, ◌^◌, ℕ, Option, Some, None, List, [], ◌∷◌, refl, ap, sym, subst, ◌∙◌, arith, ⊎_elim}
+use Rattle.std.specs.Option.{is_some}
+use Rattle.std.proofs.lemmas.Bool.{cases_eq, ne_eqb}
 use Rattle.kn_base.specs.declared.key.Key.{Key}
-use Rattle.kn_base.specs.declared.key.Key.TheVariants.{Page, Segment}
 use Rattle.unix_model.specs.Tables.{at, with_at}
 use Rattle.unix_model.proofs.TableLaws.{at-with_at, at-with_at-other}
-use Rattle.forest.specs.Objects.{Object, PageObject, NodeObject, Owner, named, with_object}
-use Rattle.forest.specs.Walks.{place_of, key_along, space_key, page_way, Mapping, map_of, IsWay}
+use Rattle.forest.specs.Objects.{Object, PageObject, NodeObject, Owner, named}
+use Rattle.forest.specs.Walks.{place_of, key_along, space_key, page_way, Mapping, map_of}
 use Rattle.forest.specs.Forest.{Forest, Held, IsSpace, EndsAt, OwnWay, CountedOnce, FitsUnder, node_way}
 use Rattle.forest.specs.Changes.{with_taken, with_key, lowered, counted_less, IsFree}
-use Rattle.forest.specs.Descent.{MadeOwn, IsPageChanged, root, kept}
+use Rattle.forest.specs.Descent.{MadeOwn, root, kept}
 use Rattle.forest.specs.Release.{Release, done, more, nothing as nothing_step, shared as shared_step}
 use Rattle.forest.specs.Calls.{ChangesMap, IsOwn}
 use Rattle.forest.proofs.ExactLaws.{with_object-here}

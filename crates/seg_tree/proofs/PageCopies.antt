@@ -1,8 +1,7 @@
 -- A page is taken with the bytes of another one, and put in its place.
-use Rattle.std.proofs.Common.{◌≡◌, ◌≢◌, ◌<◌, ◌≤◌, ◌+◌, ◌-◌, ◌*◌, ◌==◌, ◌&&◌, not, if◌then◌else◌, ℕ, Bool, true, false, Option, Some, None, List, [], ◌∷◌, length, set, get_or, get_or-set_same, get_or-set_other, refl, ap, sym, subst, ◌∙◌, arith, add-zero, ◌⊎◌, inl, inr, ⊎_elim}
+use Rattle.std.proofs.Common.{◌≡◌, ◌≢◌, ◌<◌, ◌≤◌, ◌-◌, ◌==◌, ◌&&◌, not, ℕ, Bool, true, false, Some, List, [], ◌∷◌, length, get_or-set_same, get_or-set_other, refl, ap, sym, subst, ◌∙◌, arith, add-zero, ◌⊎◌, inl, inr, ⊎_elim}
 use Rattle.std.specs.Option.{is_some, IsSome}
 use Rattle.std.proofs.lemmas.Bool.{ne_eqb, cases_eq}
-use Rattle.kn_base.specs.declared.key.Key.{Key}
 use Rattle.kn_base.specs.declared.key.Key.TheVariants.{Page}
 use Rattle.kn_base.specs.declared.key.PageId.{PageId}
 use Rattle.kn_base.specs.Memory.{zero_page}
@@ -13,10 +12,10 @@ use Rattle.kernel_tables.specs.Kernel.{Kernel, first_page, IsBankPage, bank_page
 use Rattle.kernel_tables.specs.Rows.{entry_at}
 use Rattle.space_bank.specs.FreeList.{is_free, shares}
 use Rattle.space_bank.specs.Bank.{BankGood}
-use Rattle.space_bank.specs.Shares.{Outside, Shares}
+use Rattle.space_bank.specs.Shares.{Shares}
 use Rattle.unix_model.specs.Tables.{at}
-use Rattle.forest.specs.Objects.{Object, PageObject, NodeObject, Owner, named}
-use Rattle.forest.specs.Walks.{place_of, key_along, space_key}
+use Rattle.forest.specs.Objects.{PageObject, NodeObject, Owner, named}
+use Rattle.forest.specs.Walks.{key_along, space_key}
 use Rattle.forest.specs.Forest.{Forest, Sound, IsSpace}
 use Rattle.forest.specs.Changes.{with_taken, with_key, lowered}
 use Rattle.forest.proofs.ExactLaws.{with_object-here}
@@ -29,7 +28,7 @@ use Rattle.kernel_forest.specs.Releases.{KeepsUnreleased}
 use Rattle.kernel_forest.proofs.Bridge.{page_inside}
 use Rattle.kernel_forest.proofs.Moves.{bank_page as its_page, uncounted_in_hand, page_shares}
 use Rattle.kernel_forest.proofs.GivingNodes.{unreleased, same_bytes}
-use Rattle.seg_tree.specs.Writes.{page_key, leaf_copied, TakesCopy, CopiesPage, CopiesLeaf, IsInUse}
+use Rattle.seg_tree.specs.Writes.{page_key, CopiesPage, CopiesLeaf, IsInUse}
 use Rattle.seg_tree.proofs.Emptying.{unreleased_trans}
 
 tree_used : (entry : Entry PageOwner) → IsSome (tree_in page_tree entry) → is_free entry ≡ false
@@ -127,16 +126,16 @@ module _ (old mid : Kernel) (found fresh : ℕ) (to : Owner) (good : BankGood ol
       }
 
 -- page 0 is not counted
-pub lowers_zero : (kernel : Kernel) (page : ℕ) → page ≡ 0 → LowersKey kernel kernel (page_key page)
-lowers_zero kernel page none = record {
+pub lowers_zero : (kernel : Kernel) (page : PageId) (writable : Bool) → page.0 ≡ 0 → LowersKey kernel kernel (Page page writable)
+lowers_zero kernel page writable none = record {
   steps = record {
-    forest_now = ap (λ n. lowered (forest_of kernel) (page_key n)) (sym none);
+    forest_now = ap (λ n. lowered (forest_of kernel) (Page (record { 0 = n }) writable)) (sym none);
     outside_now = λ outside. refl;
     rows_now = λ mine apart. refl;
     rest = refl;
     number = sym (add-zero kernel.machine.nodes_taken);
   };
-  shares = λ outside hand counted. (uncounted_in_hand kernel outside hand (page_key page) (ap (λ n. named (page_key n)) none) tt).1 counted;
+  shares = λ outside hand counted. (uncounted_in_hand kernel outside hand (Page page writable) (ap (λ n. named (Page (record { 0 = n }) writable)) none) tt).1 counted;
 }
 
 -- what must hold so that the copy may be put

@@ -1,15 +1,14 @@
 -- A node at the end of an own way has become empty, and is taken out.
-use Rattle.std.proofs.Common.{◌≡◌, ◌≢◌, ◌<◌, ◌≤◌, ◌+◌, ◌-◌, ◌*◌, ◌/◌, ◌%◌, ℕ, Option, Some, None, List, [], ◌∷◌, length, refl, ap, sym, subst, ◌∙◌, arith, ⊎_elim}
-use Rattle.std.specs.Option.{is_some, IsSome}
+use Rattle.std.proofs.Common.{◌≡◌, ◌≢◌, ◌<◌, ◌-◌, ℕ, Some, None, List, [], ◌∷◌, refl, ap, sym, subst, ◌∙◌, arith, ⊎_elim}
 use Rattle.std.proofs.lemmas.Bool.{cases_eq}
 use Rattle.kn_base.specs.declared.key.Key.{Key}
-use Rattle.kn_base.specs.declared.key.Key.TheVariants.{Null, Segment}
+use Rattle.kn_base.specs.declared.key.Key.TheVariants.{Null}
 use Rattle.unix_model.specs.Tables.{at, with_at}
 use Rattle.unix_model.proofs.TableLaws.{at-with_at, at-with_at-other}
-use Rattle.forest.specs.Objects.{Object, PageObject, NodeObject, Owner, named}
-use Rattle.forest.specs.Walks.{place_of, key_along, space_key, IsWay, map_of}
-use Rattle.forest.specs.Forest.{Forest, Held, IsSpace, EndsAt, OwnWay, CountedOnce, FitsUnder, NobodyNames, NoneEmpty, NoneEmptyBut, IsFilled}
-use Rattle.forest.specs.Changes.{with_key, with_given, with_count}
+use Rattle.forest.specs.Objects.{Object, PageObject, NodeObject, named}
+use Rattle.forest.specs.Walks.{place_of, key_along, space_key, IsWay}
+use Rattle.forest.specs.Forest.{Forest, Held, IsSpace, EndsAt, OwnWay, CountedOnce, FitsUnder, NobodyNames, NoneEmptyBut}
+use Rattle.forest.specs.Changes.{with_key, with_given}
 use Rattle.forest.specs.Release.{Release, ReleaseStep, done, more, nothing, shared, page, take_out, empty_node}
 use Rattle.forest.proofs.WalkLaws.{step}
 use Rattle.forest.proofs.HeldLaws.{other_object}
@@ -18,7 +17,6 @@ use Rattle.forest.proofs.OwnMaps.{OwnEnd, own_end, short_way}
 use Rattle.forest.proofs.CopyLaws.{counted_once, once}
 use Rattle.forest.proofs.DescentLaws.{own_kept, leaf_names_page}
 use Rattle.forest.proofs.EmptyLaws.{pruning_empties_above, filled_still, named_before}
-use Rattle.forest.proofs.PruneLaws.{prune_keeps_maps}
 use Rattle.seg_tree.proofs.Levels.{below_end}
 
 -- a way stays own where a node is given back that nobody names

@@ -1,33 +1,40 @@
 -- The key of a mapped page is counted once more, put in the other one's place, and the other one released.
-use Rattle.std.proofs.Common.{◌≡◌, ◌<◌, ◌≤◌, ◌%◌, ◌^◌, ◌==◌, ℕ, Option, Some, None, [], ◌∷◌, Bool, false, ap, sym, subst, ◌∙◌, arith, ⊎_elim, if◌then◌else◌}
-use Rattle.std.specs.Option.{is_some}
-use Rattle.std.proofs.lemmas.Bool.{cases_lt}
+use Rattle.std.proofs.Common.{◌≡◌, ◌≢◌, ◌<◌, ◌≤◌, ◌*◌, ◌%◌, ◌^◌, ◌==◌, ℕ, Option, Some, None, List, [], ◌∷◌, Bool, false, refl, ap, sym, subst, ◌∙◌, arith, ⊎_elim, if◌then◌else◌}
+use Rattle.std.specs.Option.{is_some, IsSome}
+use Rattle.std.proofs.lemmas.Bool.{cases_lt, cases_eq, ne_eqb}
 use Rattle.kn_base.specs.declared.key.Key.{Key}
 use Rattle.kn_base.specs.declared.key.Key.TheVariants.{Null, Page, Segment}
 use Rattle.kn_base.specs.declared.key.PageId.{PageId}
-use Rattle.kernel_tables.specs.Kernel.{Kernel, IsBankPage}
+use Rattle.kernel_tables.specs.Kernel.{Kernel}
 use Rattle.space_bank.specs.Bank.{BankGood}
 use Rattle.space_bank.specs.Shares.{Outside}
 use Rattle.unix_model.specs.Tables.{at, with_at}
-use Rattle.forest.specs.Objects.{Object, PageObject, NodeObject, Owner, named}
+use Rattle.forest.specs.Objects.{Object, PageObject, NodeObject, Owner, named, names}
 use Rattle.forest.specs.Walks.{place_of, key_along, space_key, map_of, mapping_of, Mapping}
 use Rattle.forest.specs.Forest.{Forest, Held, IsSpace, NoneEmpty, node_way}
 use Rattle.forest.specs.Calls.{ChangesMap}
 use Rattle.forest.proofs.HeldLaws.{raise_keeps_held}
-use Rattle.forest.proofs.OwnLaws.{owned_object}
+use Rattle.forest.proofs.OwnLaws.{owned_object, place_within}
 use Rattle.forest.proofs.OwnMaps.{way_of_node}
 use Rattle.forest.proofs.ReachLaws.{way_owner}
 use Rattle.forest.proofs.WalkLaws.{step}
 use Rattle.kernel_forest.specs.Trees.{forest_of, outside_trees, TreesGood}
-use Rattle.kernel_forest.specs.Moves.{KeepsRest, RaisesKey, MayRaise}
+use Rattle.kernel_forest.specs.Moves.{RaisesKey, MayRaise, LowersKey}
+use Rattle.kernel_forest.proofs.Giving.{lets_step, keeps_bytes}
+use Rattle.forest.specs.Changes.{lowered, counted_less}
+use Rattle.forest.specs.Forest.{namings}
+use Rattle.forest.specs.Release.{ReleaseStep, nothing as nothing_step, shared as shared_step}
+use Rattle.forest.proofs.CountLaws.{counted_one, true-names}
+use Rattle.forest.proofs.ExactLaws.{bit, in_hand-cons}
+use Rattle.seg_tree.specs.Writes.{may_write}
+use Rattle.seg_tree.proofs.OwnPages.{IsMany, less_owner}
 use Rattle.kernel_forest.specs.Releases.{Releasing, Lets}
-use Rattle.forest.proofs.ReleaseLaws.{release_leaves_none_empty}
+use Rattle.forest.proofs.ReleaseLaws.{release_leaves_none_empty, front_owned}
 use Rattle.kernel_forest.proofs.GivingNodes.{unreleased, same_bytes}
 use Rattle.kernel_forest.proofs.InTrees.{AllTreeKeys, AllSingle}
 use Rattle.seg_tree.specs.Leaves.{PutsLeaf}
-use Rattle.seg_tree.specs.Promises.{Replaces}
+use Rattle.seg_tree.specs.Promises.{Remaps}
 use Rattle.seg_tree.proofs.Copying.{more_owner, more_keys, rest_trans}
-use Rattle.seg_tree.proofs.Emptying.{unreleased_trans}
 use Rattle.seg_tree.proofs.Levels.{few_named}
 use Rattle.seg_tree.proofs.Mapping.{map_here}
 
@@ -63,6 +70,31 @@ mapped_here forest outside space page writable other id held below found object 
       stands = s.here;
       owner = way_owner forest held.sound space (page % 16 ∷ node_way page) (omega arith, way_of_node page) object ends;
     }
+
+pub mapped_key : (key : Key) (writable : Bool) (id : PageId) → mapping_of key ≡ Some (record { writable = writable; page = id.0 }) → key ≡ Page id writable
+mapped_key (Page page own) writable id h =
+    let number : page.0 ≡ id.0 = ap page_or_zero h in
+    let may : own ≡ writable = ap may_write h in
+    rw may (ap (λ n. Page (record { 0 = n }) writable) number)
+mapped_key Null writable id h = cc
+mapped_key (Segment node height) writable id h = cc
+mapped_key _ writable id h = cc
+
+real_named : (id : PageId) (writable : Bool) → id.0 ≢ 0 → named (Page id writable) ≡ Some (PageObject id.0)
+real_named id writable real = rw (ne_eqb id.0 0 real) refl
+
+-- a key in hand is released where what it names is counted more than once
+lets_lowered : (old new : Kernel) (key : Key) → IsMany (forest_of old) (named key) → LowersKey old new key → Lets old new (key ∷ []) []
+lets_lowered old new key many lowers =
+    lets_step old new key (lowered (forest_of old) key) lowers.steps.forest_now lowers.steps.outside_now lowers.steps.rows_now (unreleased old new lowers.steps.rest)
+    (keeps_bytes old new (lowered (forest_of old) key) lowers.steps.forest_now
+    (λ object some. ap (λ (o : Object → Option Owner). is_some (o object)) (sym (less_owner (forest_of old) (named key))) ∙ some) (same_bytes old new lowers.steps.rest))
+    lowers.shares
+    (λ outside hand r. go (named key) refl hand)
+  where
+    go : (there : Option Object) → named key ≡ there → (hand : List Key) → ReleaseStep (forest_of old) (key ∷ hand) (counted_less (forest_of old) there) hand
+    go None e hand = nothing_step key e
+    go (Some object) e hand = shared_step key object e (many object e)
 
 module _ (k0 : Kernel) (space page : ℕ) (writable : Bool) (id : PageId) (good : BankGood k0) (below : page < 2 ^ 19)
     (found : map_of (forest_of k0).keys space page ≡ Some (record { writable = writable; page = id.0 })) where
@@ -116,41 +148,62 @@ module _ (k0 : Kernel) (space page : ℕ) (writable : Bool) (id : PageId) (good 
         let here = mapped_at outside trees object h in
         ap (λ (o : Object → Option Owner). o object) owner_same ∙ here.owner ∙ sym (ap (λ (o : Object → Option Owner). o (NodeObject space)) owner_same)
 
-    pub replaced : (k2 k3 : Kernel) (was : Key) → PutsLeaf k1 k2 space page (Page id false) was → Lets k2 k3 (was ∷ []) [] → k3.machine.nodes_taken ≡ k2.machine.nodes_taken
-        → (known : Outside) → TreesGood k0 known []
-        → Replaces k0 k3 space 4 (with_at (map_of (forest_of k0).keys space) page (Some (record { writable = false; page = id.0 })))
-    replaced k2 k3 was put lets nodes known known_trees = record {
-      changes = λ outside trees.
-          let done = put.after outside (raised_trees k1 outside trees raises) k3 lets in
-          (done.0, subst (λ (keys : ℕ → Key). ChangesMap (forest_of k0) (forest_of k3) space (with_at (map_of keys space) page (Some (record { writable = false; page = id.0 })))) keys_same (back done.1));
-      filled = λ filled.
-          let now = put.filled (λ e. cc) (subst NoneEmpty (sym keys_same) filled) in
-          let hand = put.hand known (raised_trees k1 known known_trees raises) in
-          stays_filled hand now;
-      outside_now = λ outside. lets.outside_now outside ∙ put.outside_now outside ∙ raises.steps.outside_now outside;
-      rows_now = λ mine apart. lets.rows_now mine apart ∙ put.rows_now mine apart ∙ raises.steps.rows_now mine apart;
-      rest = unreleased_trans k0 k2 k3 (unreleased k0 k2 rest) lets.rest;
-      bytes = λ number inside still.
-          let pages : (forest_of k2).owner (PageObject number) ≡ (forest_of k0).owner (PageObject number) = put.pages_now number ∙ ap (λ (o : Object → Option Owner). o (PageObject number)) owner_same in
-          let size : k0.size ≡ k2.size = sym (ap (λ (k : Kernel). k.size) rest) in
-          lets.keeps.bytes number (subst (λ s. IsBankPage s number) size inside) (λ some. still (ap is_some (sym pages) ∙ some))
-          ∙ same_bytes k0 k2 rest number;
-      most = let a = put.most in let b = raises.steps.number in omega arith;
-    }
-      where
-        rest : KeepsRest k0 k2
-        rest = rest_trans k0 k1 k2 raises.steps.rest put.rest
+    module _ (k2 : Kernel) (was : Key) (put : PutsLeaf k1 k2 space page (Page id false) was) (known : Outside) (known_trees : TreesGood k0 known []) where
+      was_is : was ≡ Page id writable
+      was_is = mapped_key was writable id (put.mapping ∙ ap (λ (keys : ℕ → Key). map_of keys space page) keys_same ∙ found)
 
-        back : ChangesMap (forest_of k1) (forest_of k3) space (with_at (map_of (forest_of k1).keys space) page (Some (record { writable = false; page = id.0 })))
-            → ChangesMap (forest_of k0) (forest_of k3) space (with_at (map_of (forest_of k1).keys space) page (Some (record { writable = false; page = id.0 })))
-        back change = record {
-          stays = change.stays;
-          here = change.here;
-          others = record {
-            stay = λ other is apart. change.others.stay other (raised_space other is) apart;
-            maps = λ other is apart. change.others.maps other (raised_space other is) apart ∙ ap (λ (keys : ℕ → Key). map_of keys other) keys_same;
-          };
-        }
+      hand : Releasing k2 known (was ∷ [])
+      hand = put.hand known (raised_trees k1 known known_trees raises)
 
-        stays_filled : Releasing k2 known (was ∷ []) → NoneEmpty (forest_of k2).keys → NoneEmpty (forest_of k3).keys
-        stays_filled hand filled = release_leaves_none_empty (forest_of k2) (forest_of k3) (outside_trees k2 known) (was ∷ []) [] hand.held (lets.lets known [] hand).1 filled
+      pub protected_owned : id.0 ≢ 0 → IsSome ((forest_of k2).owner (PageObject id.0))
+      protected_owned real = front_owned (forest_of k2) (outside_trees k2 known) was [] hand.held.counts (PageObject id.0) (ap named was_is ∙ real_named id writable real)
+
+      -- the page is counted at its place and in hand
+      pub protected_many : id.0 ≢ 0 → 2 ≤ (forest_of k2).count (PageObject id.0)
+      unfolding namings
+      protected_many real =
+          let exact = hand.held.exact.counted (PageObject id.0) (protected_owned real) in
+          let stands : named (at (forest_of k2).keys put.place) ≡ Some (PageObject id.0) = ap named put.stands ∙ real_named id false real in
+          let place = counted_one (λ p. names (PageObject id.0) (at (forest_of k2).keys p)) (16 * (forest_of k2).nodes) put.place
+          (place_within (forest_of k2) hand.held.sound put.place (PageObject id.0) stands) (true-names (PageObject id.0) (at (forest_of k2).keys put.place) stands) in
+          let held = in_hand-cons was [] (PageObject id.0) in
+          let one : bit (names (PageObject id.0) was) ≡ 1 = ap bit (true-names (PageObject id.0) was (ap named was_is ∙ real_named id writable real)) in
+          omega arith
+
+      many_was : IsMany (forest_of k2) (named (Page id writable))
+      many_was object h = ⊎_elim
+          (λ (t : id.0 ≡ 0). absurd (let no : None ≡ Some object = ap (λ n. named (Page (record { 0 = n }) writable)) (sym t) ∙ h in cc))
+          (λ (t : id.0 ≢ 0).
+          let both : Some (PageObject id.0) ≡ Some object = sym (real_named id writable t) ∙ h in
+          let is : PageObject id.0 ≡ object = cc in
+          subst (λ o. 2 ≤ (forest_of k2).count o) is (protected_many t))
+          (cases_eq id.0 0)
+
+      pub protected : (k3 : Kernel) → LowersKey k2 k3 (Page id writable)
+          → Remaps k0 k3 space 4 (with_at (map_of (forest_of k0).keys space) page (Some (record { writable = false; page = id.0 })))
+      protected k3 lowers = record {
+        changes = λ outside trees.
+            let done = put.after outside (raised_trees k1 outside trees raises) k3 lets in
+            (done.0, subst (λ (keys : ℕ → Key). ChangesMap (forest_of k0) (forest_of k3) space (with_at (map_of keys space) page (Some (record { writable = false; page = id.0 })))) keys_same (back done.1));
+        filled = λ filled.
+            let now = put.filled (λ e. cc) (subst NoneEmpty (sym keys_same) filled) in
+            release_leaves_none_empty (forest_of k2) (forest_of k3) (outside_trees k2 known) (was ∷ []) [] hand.held (lets.lets known [] hand).1 now;
+        outside_now = λ outside. lowers.steps.outside_now outside ∙ put.outside_now outside ∙ raises.steps.outside_now outside;
+        rows_now = λ mine apart. lowers.steps.rows_now mine apart ∙ put.rows_now mine apart ∙ raises.steps.rows_now mine apart;
+        rest = rest_trans k0 k2 k3 (rest_trans k0 k1 k2 raises.steps.rest put.rest) lowers.steps.rest;
+        most = let a = put.most in let b = raises.steps.number in let c = lowers.steps.number in omega arith;
+      }
+        where
+          lets : Lets k2 k3 (was ∷ []) []
+          lets = subst (λ key. Lets k2 k3 (key ∷ []) []) (sym was_is) (lets_lowered k2 k3 (Page id writable) many_was lowers)
+
+          back : ChangesMap (forest_of k1) (forest_of k3) space (with_at (map_of (forest_of k1).keys space) page (Some (record { writable = false; page = id.0 })))
+              → ChangesMap (forest_of k0) (forest_of k3) space (with_at (map_of (forest_of k1).keys space) page (Some (record { writable = false; page = id.0 })))
+          back change = record {
+            stays = change.stays;
+            here = change.here;
+            others = record {
+              stay = λ other is apart. change.others.stay other (raised_space other is) apart;
+              maps = λ other is apart. change.others.maps other (raised_space other is) apart ∙ ap (λ (keys : ℕ → Key). map_of keys other) keys_same;
+            };
+          }

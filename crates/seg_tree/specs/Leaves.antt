@@ -5,7 +5,7 @@ use Rattle.kn_base.specs.declared.key.Key.TheVariants.{Null}
 use Rattle.kernel_tables.specs.Kernel.{Kernel}
 use Rattle.kernel_tables.specs.Rows.{KeepsRows}
 use Rattle.space_bank.specs.Shares.{Outside}
-use Rattle.unix_model.specs.Tables.{with_at}
+use Rattle.unix_model.specs.Tables.{at, with_at}
 use Rattle.forest.specs.Objects.{Object, PageObject, NodeObject}
 use Rattle.forest.specs.Walks.{map_of, mapping_of}
 use Rattle.forest.specs.Forest.{FitsUnder, NoneEmpty, NoneEmptyBut, OwnWay, EndsAt, node_way}
@@ -23,6 +23,8 @@ pub record PutsLeaf (old new : Kernel) (space page : ℕ) (key was : Key) : Type
   pub after : (outside : Outside) → TreesGood old outside (key ∷ []) → (next : Kernel) → Lets new next (was ∷ []) []
       → TreesGood next outside [] × ChangesMap (forest_of old) (forest_of next) space (with_at (map_of (forest_of old).keys space) page (mapping_of key))
   pub filled : key ≢ Null → NoneEmpty (forest_of old).keys → NoneEmpty (forest_of new).keys
+  pub place : ℕ
+  pub stands : at (forest_of new).keys place ≡ key
   pub own : OwnWay (forest_of new) space (node_way page)
   pub node : ℕ
   pub ends : EndsAt (forest_of new).keys space (node_way page) (NodeObject node)

@@ -6,3 +6,4 @@ pub mod Blocks
 pub mod Promises
 pub mod Writes
 pub mod Prunes
+pub mod Checks

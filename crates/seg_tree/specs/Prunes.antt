@@ -1,5 +1,5 @@
 -- Nodes that have become empty are taken out of the tree, from below upwards.
-use Rattle.std.specs.Prelude.{◌≡◌, ◌≤◌, ◌+◌, ◌↔◌, ℕ, Some, None, IsSome, List, []}
+use Rattle.std.specs.Prelude.{◌≡◌, ◌≤◌, ◌+◌, ◌↔◌, ℕ, None, IsSome, []}
 use Rattle.kn_base.specs.declared.key.Key.TheVariants.{Null}
 use Rattle.kernel_tables.specs.Kernel.{Kernel}
 use Rattle.kernel_tables.specs.Rows.{KeepsRows}
@@ -7,7 +7,7 @@ use Rattle.space_bank.specs.Shares.{Outside, Shares}
 use Rattle.unix_model.specs.Tables.{with_at}
 use Rattle.forest.specs.Objects.{Object, PageObject, NodeObject}
 use Rattle.forest.specs.Walks.{map_of}
-use Rattle.forest.specs.Forest.{Forest, IsSpace, OwnWay, EndsAt, namings}
+use Rattle.forest.specs.Forest.{IsSpace, namings}
 use Rattle.forest.specs.Changes.{with_key, with_given}
 use Rattle.kernel_forest.specs.Trees.{forest_of, outside_trees, TreesGood}
 use Rattle.kernel_forest.specs.Releases.{KeepsUnreleased}

@@ -9,7 +9,7 @@ use Rattle.space_bank.specs.FreeList.{is_free}
 use Rattle.space_bank.specs.Shares.{Outside, Shares}
 use Rattle.unix_model.specs.Tables.{at, with_at}
 use Rattle.forest.specs.Objects.{PageObject, Owner}
-use Rattle.forest.specs.Walks.{Mapping, map_of, place_of}
+use Rattle.forest.specs.Walks.{Mapping, map_of}
 use Rattle.forest.specs.Forest.{Forest, IsSpace, NoneEmpty}
 use Rattle.forest.specs.Changes.{with_taken, with_key, lowered, IsFree}
 use Rattle.forest.specs.Calls.{ChangesMap, IsOwn}
@@ -61,9 +61,10 @@ pub record CopiesLeaf (old new : Kernel) (place found fresh : ℕ) (to : Owner) 
   pub takes : TakesCopy old new (leaf_copied (forest_of old) place fresh to) found fresh
   pub shares : (outside : Outside) (hand : List Key) → Shares old outside hand → Shares new outside hand
 
--- one page was taken for a tree of the owner, and none given back
+-- One page was taken for a tree of the owner, which nothing named, and none was given back.
 pub record TakesOne (old new : Kernel) (page : ℕ) (owner : PageOwner) : Type 0 where
   pub unowned : (forest_of old).owner (PageObject page) ≡ None
+  pub unnamed : (outside : Outside) → TreesGood old outside [] → outside_trees old outside (PageObject page) ≡ 0
   pub owned : (forest_of new).owner (PageObject page) ≡ page_tree owner
   pub number : new.machine.pages_taken ≡ old.machine.pages_taken + 1
 

@@ -4,8 +4,10 @@
 //! leaves that of every other one, though they share nodes and pages: what is shared is copied on the way to what changes.
 #![tactic(auto)]
 
+mod checking;
 mod count;
 mod descent;
+mod empty;
 mod leaf;
 mod pruning;
 mod release;
@@ -14,6 +16,7 @@ mod steps;
 mod walk;
 mod writing;
 
+pub use checking::check_space;
 pub use count::mapped;
 pub use pruning::unmap;
 pub use release::drop_space;

@@ -1,11 +1,9 @@
 //! A page number is unmapped, and nodes that have become empty are taken out.
 
-ghost use Rattle.std.specs.Prelude.{◌≡◌, ◌≢◌, ℕ, ◌+◌, ◌-◌, ◌*◌, ◌/◌, ◌%◌, ◌<◌, ◌≤◌, ◌^◌, ◌&&◌, true, false, IsSome, Some, List, [], ◌∷◌};
-ghost use Rattle.kn_base.specs.declared.key.Key.{Key};
+ghost use Rattle.std.specs.Prelude.{◌≡◌, ◌≢◌, ℕ, ◌+◌, ◌-◌, ◌*◌, ◌/◌, ◌%◌, ◌<◌, ◌≤◌, ◌^◌, IsSome, Some, List, [], ◌∷◌};
 ghost use Rattle.kn_base.specs.declared.key.Key.TheVariants.{Null};
 ghost use Rattle.kn_base.specs.Memory.{Memory};
 ghost use Rattle.kernel_tables.specs.Kernel.{Kernel, kernel_of, Sized, IsSized};
-ghost use Rattle.kernel_tables.specs.Rows.{key_table};
 ghost use Rattle.space_bank.specs.Bank.{BankGood};
 ghost use Rattle.space_bank.specs.Shares.{Outside};
 ghost use Rattle.unix_model.specs.Tables.{at};
@@ -16,44 +14,14 @@ ghost use Rattle.kernel_forest.specs.Trees.{forest_of, TreesGood};
 ghost use Rattle.seg_tree.specs.Blocks.{ChangesAtMost};
 ghost use Rattle.seg_tree.specs.Prunes.{TakesOff, Prunes, Unmaps};
 
+use super::empty::is_empty;
 use super::leaf::put_leaf;
 use super::release::release_leaf;
 use super::spaces::Space;
-use super::steps::{put_key, spelled_key};
+use super::steps::put_key;
 use super::walk::key_on_way;
 use kn_base::{Key, NodeId, Store};
 use space_bank::give_node;
-
-// Whether a key is Null.
-fn is_null(key: Key) -> bool
-    ensures null { result ≡ true → key ≡ Null }
-    ensures other { result ≡ false → key ≢ Null }
-{
-    match key {
-        Key::Null => true,
-        _ => false,
-    }
-}
-
-// Whether both hold.
-fn both(one: bool, other: bool) -> bool
-    ensures { result ≡ (one && other) }
-{
-    one && other
-}
-
-/// Whether all keys of a node are Null. A place at which no key is spelled counts as Null.
-pub fn is_empty<T: Store>(store: &T, node: NodeId) -> bool
-    requires node { node.0 < (kernel_of (T.memory store.now)).nodes }
-    ensures empty { result ≡ true → (digit : ℕ) → digit < 16 → key_table (kernel_of (T.memory store.now)).keys (16 * node.0 + digit) ≡ Null }
-    ensures filled { result ≡ false → (digit : ℕ) × (digit < 16) × (key_table (kernel_of (T.memory store.now)).keys (16 * node.0 + digit) ≢ Null) }
-{
-    let mut empty = true;
-    for digit in 0..16 {
-        empty = both(empty, is_null(spelled_key(store, node, digit)));
-    }
-    empty
-}
 
 // The node so many levels below a space's root on the way to a number, where one stands.
 fn node_on_way<T: Store>(store: &T, space: NodeId, levels: u8, number: u32) -> NodeId

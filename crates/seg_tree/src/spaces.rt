@@ -12,11 +12,10 @@ ghost use Rattle.forest.specs.Walks.{digits, map_of, Mapping, place_of};
 ghost use Rattle.forest.specs.Forest.{IsSpace};
 ghost use Rattle.kernel_forest.specs.Trees.{forest_of, node_tree, TreesGood, IsTreeKey};
 ghost use Rattle.seg_tree.specs.Blocks.{ChangesAtMost};
-ghost use Rattle.seg_tree.specs.Promises.{Remaps, Replaces, Adds};
+ghost use Rattle.seg_tree.specs.Promises.{Remaps, Adds};
 
 use super::leaf::{put_leaf, tree_owner};
-use super::release::release_leaf;
-use super::steps::{copy_keys, put_key, raise_key, take_tree_node};
+use super::steps::{copy_keys, lower_leaf, put_key, raise_key, take_tree_node};
 use super::walk::find;
 use kernel_tables::NodeOwner;
 use kn_base::{Key, NodeId, PageId, Store};
@@ -45,7 +44,8 @@ pub fn map_zero<T: Store>(store: &mut T, space: Space, page: u32, writable: bool
     put_leaf(store, space.0, page, key);
 }
 
-/// Makes a page that is mapped at a page number below 2^19 read-only there. It takes at most four nodes.
+/// Makes a page that is mapped at a page number below 2^19 read-only there. It takes at most four nodes, and it takes and gives
+/// back no page.
 pub fn protect<T: Store>(store: &mut T, space: Space, page: u32)
     requires good { BankGood (kernel_of (T.memory store.old)) }
     requires trees { (outside : Outside) × TreesGood (kernel_of (T.memory store.old)) outside [] }
@@ -53,9 +53,9 @@ pub fn protect<T: Store>(store: &mut T, space: Space, page: u32)
     requires page { page < 2 ^ 19 }
     requires mapped { IsSome (map_of (forest_of (kernel_of (T.memory store.old))).keys space.0.0 page) }
     requires room { let old = kernel_of (T.memory store.old) in old.machine.nodes_taken + 19 ≤ old.nodes }
-    ensures protected { let old = kernel_of (T.memory store.old) in let map = map_of (forest_of old).keys space.0.0 in (found : Mapping) → map page ≡ Some found → Replaces old (kernel_of (T.memory store.new)) space.0.0 4 (with_at map page (Some (record found { writable = false }))) }
+    ensures protected { let old = kernel_of (T.memory store.old) in let map = map_of (forest_of old).keys space.0.0 in (found : Mapping) → map page ≡ Some found → Remaps old (kernel_of (T.memory store.new)) space.0.0 4 (with_at map page (Some (record found { writable = false }))) }
     ensures good { BankGood (kernel_of (T.memory store.new)) }
-    ensures blocks { ChangesAtMost (T.blocks store.old) (T.blocks store.new) 89 }
+    ensures blocks { ChangesAtMost (T.blocks store.old) (T.blocks store.new) 87 }
     ensures keeps { T.keeps store.old store.new }
 {
     match find(store, space, page) {
@@ -65,8 +65,8 @@ pub fn protect<T: Store>(store: &mut T, space: Space, page: u32)
                 writable: false,
             };
             raise_key(store, key);
-            let was = put_leaf(store, space.0, page, key);
-            release_leaf(store, was);
+            put_leaf(store, space.0, page, key);
+            lower_leaf(store, found.page);
         }
         None => {}
     }

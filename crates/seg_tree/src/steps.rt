@@ -1,12 +1,12 @@
 //! The steps of which calls on spaces are made.
 
-ghost use Rattle.std.specs.Prelude.{◌≡◌, ℕ, ◌+◌, ◌*◌, ◌<◌, ◌≤◌, IsSome, Some, [], ◌∷◌};
-ghost use Rattle.kn_base.specs.declared.key.Key.TheVariants.{Null, Segment};
+ghost use Rattle.std.specs.Prelude.{◌≡◌, ℕ, ◌+◌, ◌*◌, ◌<◌, ◌≤◌, ◌≢◌, Bool, IsSome, Some, [], ◌∷◌};
+ghost use Rattle.kn_base.specs.declared.key.Key.TheVariants.{Null, Page, Segment};
 ghost use Rattle.kn_base.specs.Memory.{Memory};
 ghost use Rattle.kernel_tables.specs.Kernel.{Kernel, kernel_of, Sized, IsSized};
 ghost use Rattle.space_bank.specs.Bank.{BankGood};
 ghost use Rattle.unix_model.specs.Tables.{at};
-ghost use Rattle.forest.specs.Objects.{NodeObject, Owner};
+ghost use Rattle.forest.specs.Objects.{PageObject, NodeObject, Owner};
 ghost use Rattle.forest.specs.Walks.{place_of};
 ghost use Rattle.kernel_forest.specs.Trees.{forest_of, node_tree, IsTreeKey};
 ghost use Rattle.kernel_tables.specs.Rows.{key_table};
@@ -16,8 +16,10 @@ ghost use Rattle.seg_tree.specs.Blocks.{ChangesBeside, ChangesAtMost};
 ghost use Rattle.seg_tree.specs.Steps.{MayCopyKey, MayCopy, key_copied, copying, segment_of, MayOwn, FreshChild, OwnsChild};
 
 use kernel_tables::{NodeOwner, key_at};
-use kn_base::{Key, NodeId, Store};
-use space_bank::{lower_node, node_count, raise_node, raise_page, take_node, write_key};
+use kn_base::{Key, NodeId, PageId, Store};
+use space_bank::{
+    lower_node, lower_page, node_count, raise_node, raise_page, take_node, write_key,
+};
 
 /// The key at a place of a node, and Null where none is spelled.
 #[tactic(auto, unfolding(kernel_tables::specs::Rows::key_table))]
@@ -104,6 +106,21 @@ pub fn lower_key<T: Store>(store: &mut T, node: NodeId)
     ensures keeps { T.keeps store.old store.new }
 {
     lower_node(store, node);
+}
+
+/// Counts a page of a tree once less, which is counted more than once, unless it is page 0, which is not counted.
+pub fn lower_leaf<T: Store>(store: &mut T, page: PageId)
+    requires good { BankGood (kernel_of (T.memory store.old)) }
+    requires owned { page.0 ≢ 0 → IsSome ((forest_of (kernel_of (T.memory store.old))).owner (PageObject page.0)) }
+    requires shared { page.0 ≢ 0 → 2 ≤ (forest_of (kernel_of (T.memory store.old))).count (PageObject page.0) }
+    ensures lowered { (writable : Bool) → LowersKey (kernel_of (T.memory store.old)) (kernel_of (T.memory store.new)) (Page page writable) }
+    ensures good { BankGood (kernel_of (T.memory store.new)) }
+    ensures blocks { ChangesAtMost (T.blocks store.old) (T.blocks store.new) 1 }
+    ensures keeps { T.keeps store.old store.new }
+{
+    if page.0 != 0 {
+        lower_page(store, page);
+    }
 }
 
 // Copies a key of a node to an empty place of another one.

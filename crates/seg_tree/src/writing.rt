@@ -11,18 +11,18 @@ ghost use Rattle.forest.specs.Walks.{map_of, Mapping, place_of};
 ghost use Rattle.forest.specs.Forest.{IsSpace};
 ghost use Rattle.forest.specs.Calls.{IsOwn};
 ghost use Rattle.kernel_forest.specs.Trees.{forest_of, page_tree, TreesGood};
-ghost use Rattle.kernel_forest.specs.Moves.{TakesFreshPage, LowersKey};
+ghost use Rattle.kernel_forest.specs.Moves.{TakesFreshPage};
 ghost use Rattle.seg_tree.specs.Blocks.{ChangesAtMost};
 ghost use Rattle.seg_tree.specs.Writes.{CopiesPage, CopiesLeaf, Owns, page_key, writable_mapping, may_write};
 
 use super::descent::own_node;
 use super::leaf::tree_owner;
 use super::spaces::Space;
-use super::steps::put_key;
+use super::steps::{lower_leaf, put_key};
 use super::walk::find;
 use kernel_tables::PageOwner;
 use kn_base::{Key, NodeId, PageId, Store};
-use space_bank::{copy_page, lower_page, page_count, take_page};
+use space_bank::{copy_page, page_count, take_page};
 
 // Takes a page for a tree.
 fn take_tree_page<T: Store>(store: &mut T, owner: PageOwner) -> PageId
@@ -56,21 +56,6 @@ fn take_copy<T: Store>(store: &mut T, found: PageId, owner: PageOwner) -> PageId
         copy_page(store, found, fresh);
     }
     fresh
-}
-
-// Counts a page of a tree once less, which is counted more than once, unless it is page 0, which is not counted.
-fn lower_leaf<T: Store>(store: &mut T, page: PageId)
-    requires good { BankGood (kernel_of (T.memory store.old)) }
-    requires owned { page.0 ≢ 0 → IsSome ((forest_of (kernel_of (T.memory store.old))).owner (PageObject page.0)) }
-    requires shared { page.0 ≢ 0 → 2 ≤ (forest_of (kernel_of (T.memory store.old))).count (PageObject page.0) }
-    ensures lowered { LowersKey (kernel_of (T.memory store.old)) (kernel_of (T.memory store.new)) (page_key page.0) }
-    ensures good { BankGood (kernel_of (T.memory store.new)) }
-    ensures blocks { ChangesAtMost (T.blocks store.old) (T.blocks store.new) 1 }
-    ensures keeps { T.keeps store.old store.new }
-{
-    if page.0 != 0 {
-        lower_page(store, page);
-    }
 }
 
 // Puts a copy of a page that is counted elsewhere too in its place.

@@ -69,5 +69,5 @@ returns-clause-put g c =
     c.put_key.ensures.put)
 
 pub returns-clause-blocks : goal.returns-clause-blocks
-returns-clause-blocks g c = 
+returns-clause-blocks g c =
     more_at_most 85 (omega arith) c.own_node-node.ensures.blocks (at_most 1 (omega arith) c.put_key.ensures.blocks)

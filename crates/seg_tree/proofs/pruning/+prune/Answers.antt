@@ -1,4 +1,4 @@
-use Rattle.std.proofs.Common.{◌-◌, ◌*◌, ◌/◌, ◌%◌, [], arith, rules}
+use Rattle.std.proofs.Common.{◌*◌, ◌%◌, [], arith, rules}
 use Rattle.kernel_tables.specs.Kernel.{kernel_of}
 use Rattle.forest.specs.Objects.{NodeObject}
 use Rattle.forest.specs.Walks.{digits}
@@ -42,9 +42,22 @@ take_off-requires-clause-empty g t c = tree_nulls (kernel_of (g.T.Store.memory c
 pub prune-requires : goal.prune-requires
 prune-requires g t c κs within =
     let some = c.if-levels-eq0.false in
-    let one = prunes_one (kernel_of (g.T.Store.memory c.args.store.now)) c.node_on_way-above.result.0 (c.args.number % 16) c.node_on_way-node.result c.requires.trees.0 c.requires.trees.1 c.requires.good (omega arith) (level_stands (kernel_of (g.T.Store.memory c.args.store.now)) c.args.space.0 c.args.levels c.args.number c.if-levels-eq0.false c.requires.trees.0 c.requires.trees.1 c.requires.space c.requires.own c.node_on_way-node.result.0 c.node_on_way-node.ensures c.node_on_way-above.result.0 c.node_on_way-above.ensures) (level_once (kernel_of (g.T.Store.memory c.args.store.now)) c.args.space.0 c.args.levels c.args.number c.if-levels-eq0.false c.requires.trees.0 c.requires.trees.1 c.requires.space c.requires.own c.node_on_way-node.result.0 c.node_on_way-node.ensures c.node_on_way-above.result.0 c.node_on_way-above.ensures) (tree_nulls (kernel_of (g.T.Store.memory c.args.store.now)) c.node_on_way-node.result.0 (end_owned (forest_of (kernel_of (g.T.Store.memory c.args.store.now))) [] c.requires.trees.1.held.sound c.args.space.0 c.requires.space (digits c.args.levels c.args.number) (NodeObject c.node_on_way-node.result.0) c.node_on_way-node.ensures) (c.is_empty.ensures.empty c.if-is_empty.true)) (kernel_of (g.T.Store.memory c.take_off.new.store)) c.take_off.ensures.off in
-    (search rules, (within, (c.take_off.ensures.good, ((c.requires.trees.0, one.trees c.requires.trees.0 c.requires.trees.1), ((one.spaces c.args.space.0 c.requires.space).0,
-    (next_own (kernel_of (g.T.Store.memory c.args.store.now)) c.args.space.0 c.args.levels c.args.number c.if-levels-eq0.false c.requires.trees.0 c.requires.trees.1 c.requires.space c.requires.own c.node_on_way-node.result.0 c.node_on_way-node.ensures c.node_on_way-above.result.0 c.node_on_way-above.ensures (kernel_of (g.T.Store.memory c.take_off.new.store)) c.take_off.ensures.off, (c.node_on_way-above.result.0, next_ends (kernel_of (g.T.Store.memory c.args.store.now)) c.args.space.0 c.args.levels c.args.number c.if-levels-eq0.false c.requires.trees.0 c.requires.trees.1 c.requires.space c.requires.own c.node_on_way-node.result.0 c.node_on_way-node.ensures c.node_on_way-above.result.0 c.node_on_way-above.ensures (kernel_of (g.T.Store.memory c.take_off.new.store)) c.take_off.ensures.off)))))))
+    let one = prunes_one (kernel_of (g.T.Store.memory c.args.store.now)) c.node_on_way-above.result.0 (c.args.number % 16) c.node_on_way-node.result c.requires.trees.0 c.requires.trees.1 c.requires.good (omega arith) (level_stands (kernel_of (g.T.Store.memory c.args.store.now)) c.args.space.0 c.args.levels c.args.number c.if-levels-eq0.false c.requires.trees.0 c.requires.trees.1 c.requires.space c.requires.own c.node_on_way-node.result.0 c.node_on_way-node.ensures c.node_on_way-above.result.0 c.node_on_way-above.ensures) (level_once (kernel_of (g.T.Store.memory c.args.store.now)) c.args.space.0 c.args.levels c.args.number c.if-levels-eq0.false c.requires.trees.0 c.requires.trees.1 c.requires.space c.requires.own c.node_on_way-node.result.0 c.node_on_way-node.ensures c.node_on_way-above.result.0 c.node_on_way-above.ensures) (tree_nulls (kernel_of (g.T.Store.memory c.args.store.now)) c.node_on_way-node.result.0 (end_owned (forest_of (kernel_of (g.T.Store.memory c.args.store.now))) [] c.requires.trees.1.held.sound c.args.space.0 c.requires.space (digits c.args.levels c.args.number) (NodeObject c.node_on_way-node.result.0) c.node_on_way-node.ensures) (c.is_empty.ensures.empty c.if-is_empty.true)) (kernel_of (g.T.Store.memory c.take_off.new.store)) c.take_off.ensures.off in (
+      search rules,
+      (
+        within,
+        (
+          c.take_off.ensures.good,
+          (
+            (c.requires.trees.0, one.trees c.requires.trees.0 c.requires.trees.1),
+            (
+              (one.spaces c.args.space.0 c.requires.space).0,
+              (next_own (kernel_of (g.T.Store.memory c.args.store.now)) c.args.space.0 c.args.levels c.args.number c.if-levels-eq0.false c.requires.trees.0 c.requires.trees.1 c.requires.space c.requires.own c.node_on_way-node.result.0 c.node_on_way-node.ensures c.node_on_way-above.result.0 c.node_on_way-above.ensures (kernel_of (g.T.Store.memory c.take_off.new.store)) c.take_off.ensures.off, (c.node_on_way-above.result.0, next_ends (kernel_of (g.T.Store.memory c.args.store.now)) c.args.space.0 c.args.levels c.args.number c.if-levels-eq0.false c.requires.trees.0 c.requires.trees.1 c.requires.space c.requires.own c.node_on_way-node.result.0 c.node_on_way-node.ensures c.node_on_way-above.result.0 c.node_on_way-above.ensures (kernel_of (g.T.Store.memory c.take_off.new.store)) c.take_off.ensures.off)),
+            ),
+          ),
+        ),
+      ),
+    )
 
 pub returns-then-is_empty-clause-pruned : goal.returns-then-is_empty-clause-pruned
 returns-then-is_empty-clause-pruned g t c = prunes_trans (kernel_of (g.T.Store.memory c.args.store.now)) (kernel_of (g.T.Store.memory c.take_off.new.store)) (kernel_of (g.T.Store.memory c.prune.new.store)) (prunes_one (kernel_of (g.T.Store.memory c.args.store.now)) c.node_on_way-above.result.0 (c.args.number % 16) c.node_on_way-node.result c.requires.trees.0 c.requires.trees.1 c.requires.good (omega arith) (level_stands (kernel_of (g.T.Store.memory c.args.store.now)) c.args.space.0 c.args.levels c.args.number c.if-levels-eq0.false c.requires.trees.0 c.requires.trees.1 c.requires.space c.requires.own c.node_on_way-node.result.0 c.node_on_way-node.ensures c.node_on_way-above.result.0 c.node_on_way-above.ensures) (level_once (kernel_of (g.T.Store.memory c.args.store.now)) c.args.space.0 c.args.levels c.args.number c.if-levels-eq0.false c.requires.trees.0 c.requires.trees.1 c.requires.space c.requires.own c.node_on_way-node.result.0 c.node_on_way-node.ensures c.node_on_way-above.result.0 c.node_on_way-above.ensures) (tree_nulls (kernel_of (g.T.Store.memory c.args.store.now)) c.node_on_way-node.result.0 (end_owned (forest_of (kernel_of (g.T.Store.memory c.args.store.now))) [] c.requires.trees.1.held.sound c.args.space.0 c.requires.space (digits c.args.levels c.args.number) (NodeObject c.node_on_way-node.result.0) c.node_on_way-node.ensures) (c.is_empty.ensures.empty c.if-is_empty.true)) (kernel_of (g.T.Store.memory c.take_off.new.store)) c.take_off.ensures.off) c.prune.ensures.pruned

@@ -1,6 +1,5 @@
-use Rattle.std.proofs.Common.{◌≡◌, Some, None, ap, sym, ◌∙◌}
-use Rattle.kernel_tables.specs.Kernel.{kernel_of}
-use Rattle.forest.specs.Objects.{NodeObject, named}
+use Rattle.std.proofs.Common.{ap, sym, ◌∙◌}
+use Rattle.forest.specs.Objects.{named}
 use Rattle.seg_tree.proofs.Emptiness.{no_node}
 use Rattle.seg_tree.proofs.pruning.node_on_way.Goals as goal
 

@@ -26,5 +26,5 @@ returns-clause-added g c =
     (c.take_tree_node-root.ensures.taken owner.0 owner.1) c.put_key.ensures.put (node_tree c.args.owner) owner.1
 
 pub returns-clause-blocks : goal.returns-clause-blocks
-returns-clause-blocks g c = 
+returns-clause-blocks g c =
     more_at_most 3 (omega arith) c.take_tree_node-root.ensures.blocks (at_most 1 (omega arith) c.put_key.ensures.blocks)

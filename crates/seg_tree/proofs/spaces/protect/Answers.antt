@@ -1,10 +1,10 @@
-use Rattle.std.proofs.Common.{◌≡◌, [], ℕ, Some, None, false, ap, sym, subst, ◌∙◌, arith}
+use Rattle.std.proofs.Common.{◌≡◌, ℕ, Some, None, false, ap, sym, subst, ◌∙◌, arith}
 use Rattle.unix_model.specs.Tables.{with_at}
 use Rattle.forest.specs.Walks.{map_of}
 use Rattle.kernel_tables.specs.Kernel.{Kernel, kernel_of}
 use Rattle.kernel_forest.specs.Trees.{forest_of}
-use Rattle.seg_tree.specs.Promises.{Replaces}
-use Rattle.seg_tree.proofs.Replacing.{page_or_zero, may_protect, raised_trees, raised_space, raised_owners, replaced}
+use Rattle.seg_tree.specs.Promises.{Remaps}
+use Rattle.seg_tree.proofs.Replacing.{page_or_zero, may_protect, raised_trees, raised_space, raised_owners, protected_owned, protected_many, protected}
 use Rattle.seg_tree.proofs.BlockCounts.{none_at_most, more_at_most}
 use Rattle.seg_tree.proofs.spaces.protect.Goals as goal
 
@@ -13,60 +13,51 @@ raise_key-requires-clause-may g c =
     may_protect (kernel_of (g.T.Store.memory c.args.store.now)) c.args.space.0.0 c.args.page c.in-Some.found.writable c.in-Some.found.page c.requires.good c.requires.page
     (sym c.in-Some.ensures.found) c.requires.trees.0 c.requires.trees.1
 
-pub put_leaf-was-requires-clause-trees : goal.put_leaf-was-requires-clause-trees
-put_leaf-was-requires-clause-trees g c = (
+pub put_leaf-requires-clause-trees : goal.put_leaf-requires-clause-trees
+put_leaf-requires-clause-trees g c = (
   c.requires.trees.0,
   raised_trees (kernel_of (g.T.Store.memory c.args.store.now)) c.args.space.0.0 c.args.page c.in-Some.found.writable c.in-Some.found.page c.requires.good c.requires.page
       (sym c.in-Some.ensures.found) (kernel_of (g.T.Store.memory c.raise_key.new.store)) c.requires.trees.0 c.requires.trees.1 c.raise_key.ensures.raised,
 )
 
-pub put_leaf-was-requires-clause-space : goal.put_leaf-was-requires-clause-space
-put_leaf-was-requires-clause-space g c =
+pub put_leaf-requires-clause-space : goal.put_leaf-requires-clause-space
+put_leaf-requires-clause-space g c =
     raised_space (kernel_of (g.T.Store.memory c.args.store.now)) c.args.space.0.0 c.args.page c.in-Some.found.writable c.in-Some.found.page c.requires.good c.requires.page
     (sym c.in-Some.ensures.found) (kernel_of (g.T.Store.memory c.raise_key.new.store)) c.raise_key.ensures.raised c.args.space.0.0 c.requires.space
 
-pub put_leaf-was-requires-clause-owners : goal.put_leaf-was-requires-clause-owners
-put_leaf-was-requires-clause-owners g c =
+pub put_leaf-requires-clause-owners : goal.put_leaf-requires-clause-owners
+put_leaf-requires-clause-owners g c =
     raised_owners (kernel_of (g.T.Store.memory c.args.store.now)) c.args.space.0.0 c.args.page c.in-Some.found.writable c.in-Some.found.page c.requires.good c.requires.page
     (sym c.in-Some.ensures.found) (kernel_of (g.T.Store.memory c.raise_key.new.store)) c.raise_key.ensures.raised c.requires.trees.0 c.requires.trees.1
 
-pub put_leaf-was-requires-clause-room : goal.put_leaf-was-requires-clause-room
-put_leaf-was-requires-clause-room g c =
+pub put_leaf-requires-clause-room : goal.put_leaf-requires-clause-room
+put_leaf-requires-clause-room g c =
     let number = c.raise_key.ensures.raised.steps.number in
     let nodes = ap (λ (k : Kernel). k.nodes) c.raise_key.ensures.raised.steps.rest in
     let room = c.requires.room in
     omega arith
 
-pub release_leaf-requires-clause-hand : goal.release_leaf-requires-clause-hand
-release_leaf-requires-clause-hand g c = (
-  c.requires.trees.0,
-  [],
-  c.put_leaf-was.ensures.put.hand c.requires.trees.0
-      (raised_trees (kernel_of (g.T.Store.memory c.args.store.now)) c.args.space.0.0 c.args.page c.in-Some.found.writable c.in-Some.found.page c.requires.good c.requires.page
-      (sym c.in-Some.ensures.found) (kernel_of (g.T.Store.memory c.raise_key.new.store)) c.requires.trees.0 c.requires.trees.1 c.raise_key.ensures.raised),
-)
+pub lower_leaf-requires-clause-owned : goal.lower_leaf-requires-clause-owned
+lower_leaf-requires-clause-owned g c = protected_owned (kernel_of (g.T.Store.memory c.args.store.now)) c.args.space.0.0 c.args.page c.in-Some.found.writable c.in-Some.found.page c.requires.good c.requires.page (sym c.in-Some.ensures.found) (kernel_of (g.T.Store.memory c.raise_key.new.store)) c.raise_key.ensures.raised (kernel_of (g.T.Store.memory c.put_leaf.new.store)) c.put_leaf.result c.put_leaf.ensures.put c.requires.trees.0 c.requires.trees.1
 
-pub release_leaf-requires-clause-leaf : goal.release_leaf-requires-clause-leaf
-release_leaf-requires-clause-leaf g c = c.put_leaf-was.ensures.put.leaf
+pub lower_leaf-requires-clause-shared : goal.lower_leaf-requires-clause-shared
+lower_leaf-requires-clause-shared g c = protected_many (kernel_of (g.T.Store.memory c.args.store.now)) c.args.space.0.0 c.args.page c.in-Some.found.writable c.in-Some.found.page c.requires.good c.requires.page (sym c.in-Some.ensures.found) (kernel_of (g.T.Store.memory c.raise_key.new.store)) c.raise_key.ensures.raised (kernel_of (g.T.Store.memory c.put_leaf.new.store)) c.put_leaf.result c.put_leaf.ensures.put c.requires.trees.0 c.requires.trees.1
 
 pub returns-in-Some-clause-protected : goal.returns-in-Some-clause-protected
 returns-in-Some-clause-protected g c found is =
     let old = kernel_of (g.T.Store.memory c.args.store.now) in
-    let mid = kernel_of (g.T.Store.memory c.raise_key.new.store) in
-    let put = kernel_of (g.T.Store.memory c.put_leaf-was.new.store) in
-    let new = kernel_of (g.T.Store.memory c.release_leaf.new.store) in
+    let new = kernel_of (g.T.Store.memory c.lower_leaf.new.store) in
     let same : Some (record { writable = c.in-Some.found.writable; page = c.in-Some.found.page.0 }) ≡ Some found = c.in-Some.ensures.found ∙ is in
     let pages : c.in-Some.found.page.0 ≡ found.page = ap page_or_zero same in
-    subst (λ (number : ℕ). Replaces old new c.args.space.0.0 4 (with_at (map_of (forest_of old).keys c.args.space.0.0) c.args.page (Some (record { writable = false; page = number })))) pages
-    (replaced old c.args.space.0.0 c.args.page c.in-Some.found.writable c.in-Some.found.page c.requires.good c.requires.page
-    (sym c.in-Some.ensures.found) mid c.raise_key.ensures.raised put new c.put_leaf-was.result c.put_leaf-was.ensures.put c.release_leaf.ensures.released c.release_leaf.ensures.nodes c.requires.trees.0 c.requires.trees.1)
+    subst (λ (number : ℕ). Remaps old new c.args.space.0.0 4 (with_at (map_of (forest_of old).keys c.args.space.0.0) c.args.page (Some (record { writable = false; page = number })))) pages
+    (protected (kernel_of (g.T.Store.memory c.args.store.now)) c.args.space.0.0 c.args.page c.in-Some.found.writable c.in-Some.found.page c.requires.good c.requires.page (sym c.in-Some.ensures.found) (kernel_of (g.T.Store.memory c.raise_key.new.store)) c.raise_key.ensures.raised (kernel_of (g.T.Store.memory c.put_leaf.new.store)) c.put_leaf.result c.put_leaf.ensures.put c.requires.trees.0 c.requires.trees.1 new (c.lower_leaf.ensures.lowered c.in-Some.found.writable))
 
 pub returns-in-None-clause-protected : goal.returns-in-None-clause-protected
 returns-in-None-clause-protected g c found is = let no : None ≡ Some found = c.in-None.ensures.found ∙ is in cc
 
 pub returns-in-Some-clause-blocks : goal.returns-in-Some-clause-blocks
-returns-in-Some-clause-blocks g c = 
-    more_at_most 89 (omega arith) c.raise_key.ensures.blocks (more_at_most 88 (omega arith) c.put_leaf-was.ensures.blocks c.release_leaf.ensures.blocks)
+returns-in-Some-clause-blocks g c =
+    more_at_most 87 (omega arith) c.raise_key.ensures.blocks (more_at_most 86 (omega arith) c.put_leaf.ensures.blocks c.lower_leaf.ensures.blocks)
 
 pub returns-in-None-clause-blocks : goal.returns-in-None-clause-blocks
-returns-in-None-clause-blocks g c = none_at_most 89
+returns-in-None-clause-blocks g c = none_at_most 87

@@ -21,5 +21,5 @@ returns-clause-shared g c =
     (kernel_of (g.T.Store.memory c.copy_keys.new.store)) c.copy_keys.ensures.copied
 
 pub returns-clause-blocks : goal.returns-clause-blocks
-returns-clause-blocks g c = 
+returns-clause-blocks g c =
     more_at_most 19 (omega arith) c.take_tree_node-root.ensures.blocks c.copy_keys.ensures.blocks

@@ -36,5 +36,5 @@ returns-clause-fresh g c to tree =
     (c.take_tree_node-fresh.ensures.taken to tree) c.put_key.ensures.put
 
 pub returns-clause-blocks : goal.returns-clause-blocks
-returns-clause-blocks g c = 
+returns-clause-blocks g c =
     more_at_most 21 (omega arith) c.take_tree_node-fresh.ensures.blocks (at_most 1 (omega arith) c.put_key.ensures.blocks)

@@ -67,7 +67,7 @@ returns-clause-fresh g c to tree =
     (c.take_tree_node-fresh.ensures.taken to tree) c.copy_keys.ensures.copied c.put_key.ensures.put (c.lower_key.ensures.lowered c.args.height)
 
 pub returns-clause-blocks : goal.returns-clause-blocks
-returns-clause-blocks g c = 
+returns-clause-blocks g c =
     more_at_most 21 (omega arith) c.take_tree_node-fresh.ensures.blocks
     (more_at_most 19 (omega arith) c.copy_keys.ensures.blocks
     (more_at_most 2 (omega arith) (at_most 1 (omega arith) c.put_key.ensures.blocks) c.lower_key.ensures.blocks))

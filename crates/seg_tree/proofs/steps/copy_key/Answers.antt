@@ -44,7 +44,7 @@ returns-clause-copied g c =
     (subst (λ key. PutsKey mid new (place_of c.args.to.0 c.args.digit) key) c.tree_key-key.ensures c.put_key.ensures.put)
 
 pub returns-clause-blocks : goal.returns-clause-blocks
-returns-clause-blocks g c = 
+returns-clause-blocks g c =
     let pages = ap (λ (k : Kernel). k.pages) c.raise_key.ensures.raised.steps.rest in
     put_beside (key_block (kernel_of (g.T.Store.memory c.args.store.now)).pages c.args.to.0) c.raise_key.ensures.blocks
     (subst (λ (p : ℕ). ChangesBlocks (g.T.Store.blocks c.raise_key.new.store) (g.T.Store.blocks c.put_key.new.store) (key_block p c.args.to.0 ∷ [])) pages c.put_key.ensures.blocks)

@@ -1,5 +1,5 @@
 use Rattle.std.proofs.Common.{[], ◌∷◌}
-use Rattle.kernel_tables.specs.Kernel.{Kernel, kernel_of}
+use Rattle.kernel_tables.specs.Kernel.{kernel_of}
 use Rattle.kernel_tables.specs.Blocks.{key_block}
 use Rattle.seg_tree.specs.Blocks.{ChangesBeside}
 use Rattle.space_bank.specs.Bank.{BankGood}

@@ -1,6 +1,5 @@
 use Rattle.kernel_tables.specs.Kernel.{kernel_of}
 use Rattle.kernel_forest.proofs.Moves.{puts_key, node_below, node_used}
-use Rattle.seg_tree.proofs.BlockCounts.{at_most}
 use Rattle.seg_tree.proofs.steps.put_key.Goals as goal
 
 pub returns-clause-put : goal.returns-clause-put

@@ -20,7 +20,7 @@ pub returns-in-Some-clause-blocks : goal.returns-in-Some-clause-blocks
 returns-in-Some-clause-blocks g c = at_most 2 (omega arith) c.in-Some.ensures.blocks
 
 pub returns-in-None-clause-blocks : goal.returns-in-None-clause-blocks
-returns-in-None-clause-blocks g c = 
+returns-in-None-clause-blocks g c =
     let full = no_node-free (kernel_of (g.T.Store.memory c.args.store.now)) c.requires.good c.in-None.ensures.taken.0 in
     let room = c.requires.room in
     absurd (omega arith)

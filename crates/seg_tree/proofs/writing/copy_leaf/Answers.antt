@@ -1,6 +1,5 @@
-use Rattle.std.proofs.Common.{arith}
+use Rattle.std.proofs.Common.{true, arith}
 use Rattle.kernel_tables.specs.Kernel.{kernel_of}
-use Rattle.unix_model.specs.Tables.{at}
 use Rattle.forest.specs.Walks.{place_of}
 use Rattle.kernel_forest.specs.Trees.{page_tree}
 use Rattle.seg_tree.proofs.Levels.{some_owner}
@@ -36,9 +35,9 @@ pub returns-clause-copied : goal.returns-clause-copied
 returns-clause-copied g c to tree =
     copies_leaf (kernel_of (g.T.Store.memory c.args.store.now)) (kernel_of (g.T.Store.memory c.take_copy-fresh.new.store)) (kernel_of (g.T.Store.memory c.put_key.new.store)) (kernel_of (g.T.Store.memory c.lower_leaf.new.store))
     (place_of c.args.node.0 c.args.digit) c.args.found.0 c.take_copy-fresh.result.0 to
-    c.requires.stands (c.take_copy-fresh.ensures.copied to tree) c.put_key.ensures.put c.lower_leaf.ensures.lowered
+    c.requires.stands (c.take_copy-fresh.ensures.copied to tree) c.put_key.ensures.put (c.lower_leaf.ensures.lowered true)
 
 pub returns-clause-blocks : goal.returns-clause-blocks
-returns-clause-blocks g c = 
+returns-clause-blocks g c =
     more_at_most 5 (omega arith) c.take_copy-fresh.ensures.blocks
     (more_at_most 2 (omega arith) (at_most 1 (omega arith) c.put_key.ensures.blocks) c.lower_leaf.ensures.blocks)

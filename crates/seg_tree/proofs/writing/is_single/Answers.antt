@@ -1,4 +1,3 @@
-use Rattle.std.proofs.Common.{ap, sym, ◌∙◌, ◌&&◌, not, ◌==◌}
 use Rattle.kernel_tables.specs.Kernel.{kernel_of}
 use Rattle.seg_tree.proofs.PageCopies.{in_use, single_count}
 use Rattle.seg_tree.proofs.writing.is_single.Goals as goal

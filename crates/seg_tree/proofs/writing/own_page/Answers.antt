@@ -1,7 +1,7 @@
-use Rattle.std.proofs.Common.{◌≡◌, ◌≢◌, ◌≤◌, ◌<◌, ◌&&◌, ◌==◌, not, ℕ, true, false, Some, [], ap, sym, subst, ◌∙◌, arith}
+use Rattle.std.proofs.Common.{◌≡◌, Some, [], ap, sym, ◌∙◌, arith}
 use Rattle.std.specs.Option.{is_some}
 use Rattle.kernel_tables.specs.Kernel.{Kernel, kernel_of}
-use Rattle.kernel_forest.specs.Trees.{node_tree, page_tree, forest_of}
+use Rattle.kernel_forest.specs.Trees.{node_tree, page_tree}
 use Rattle.space_bank.specs.Shares.{Outside}
 use Rattle.kernel_forest.specs.Trees.{TreesGood}
 use Rattle.seg_tree.proofs.Levels.{some_owner}
@@ -41,9 +41,9 @@ copy_leaf-requires-clause-room g c =
     let taken : mid.machine.pages_taken ≡ old.machine.pages_taken = ap (λ (k : Kernel). k.machine.pages_taken) d.rest in
     let size : mid.size ≡ old.size = ap (λ (k : Kernel). k.size) d.rest in
     let room = c.requires.page_room (λ own.
-        let one = own_single old mid c.args.space.0 c.args.page c.own_node-node.result.0 c.args.found.0 owner.0 c.requires.page c.requires.space (c.tree_owner-node_owner.ensures ∙ owner.1) c.requires.mapped
-        all.0 all.1 d own in
-        not_once mid c.args.found.0 c.is_single.result c.is_single.ensures c.if-is_single.false one.0 one.1) in
+    let one = own_single old mid c.args.space.0 c.args.page c.own_node-node.result.0 c.args.found.0 owner.0 c.requires.page c.requires.space (c.tree_owner-node_owner.ensures ∙ owner.1) c.requires.mapped
+    all.0 all.1 d own in
+    not_once mid c.args.found.0 c.is_single.result c.is_single.ensures c.if-is_single.false one.0 one.1) in
     omega arith
 
 pub copy_leaf-requires-clause-tree : goal.copy_leaf-requires-clause-tree

@@ -1,4 +1,4 @@
-use Rattle.std.proofs.Common.{arith, ◌≢◌, ℕ, sym, subst, ◌∙◌, ap}
+use Rattle.std.proofs.Common.{arith}
 use Rattle.kernel_tables.specs.Kernel.{kernel_of}
 use Rattle.kernel_forest.specs.Trees.{page_tree}
 use Rattle.seg_tree.proofs.Levels.{some_owner}
@@ -42,7 +42,7 @@ returns-else-found-ne0-clause-copied g c to tree =
     c.if-found-ne0.false c.requires.zero (c.take_tree_page-fresh.ensures.taken to tree)
 
 pub returns-then-found-ne0-clause-blocks : goal.returns-then-found-ne0-clause-blocks
-returns-then-found-ne0-clause-blocks g c = 
+returns-then-found-ne0-clause-blocks g c =
     more_at_most 3 (omega arith) c.take_tree_page-fresh.ensures.blocks (at_most 1 (omega arith) c.copy_page.ensures.blocks)
 
 pub returns-else-found-ne0-clause-blocks : goal.returns-else-found-ne0-clause-blocks

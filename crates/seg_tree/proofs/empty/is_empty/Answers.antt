@@ -1,8 +1,8 @@
-use Rattle.std.proofs.Common.{◌≡◌, ◌≢◌, ◌<◌, ◌+◌, ◌*◌, ◌&&◌, ℕ, true, false, sym, ◌∙◌, arith}
+use Rattle.std.proofs.Common.{◌+◌, ◌*◌, sym, ◌∙◌, arith}
 use Rattle.kernel_tables.specs.Kernel.{kernel_of}
 use Rattle.kernel_tables.specs.Rows.{key_table}
 use Rattle.seg_tree.proofs.Emptiness.{nulls_more, filled_more}
-use Rattle.seg_tree.proofs.pruning.is_empty.Goals as goal
+use Rattle.seg_tree.proofs.empty.is_empty.Goals as goal
 
 pub loop-digit-init : goal.loop-digit-init
 loop-digit-init g c = record {

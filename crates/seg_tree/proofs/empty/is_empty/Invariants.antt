@@ -2,7 +2,7 @@ use Rattle.std.proofs.Common.{◌≡◌, ◌≢◌, ◌<◌, ◌+◌, ◌*◌, �
 use Rattle.kn_base.specs.declared.key.Key.TheVariants.{Null}
 use Rattle.kernel_tables.specs.Kernel.{kernel_of}
 use Rattle.kernel_tables.specs.Rows.{key_table}
-use Rattle.seg_tree.proofs.pruning.is_empty.Given as goal
+use Rattle.seg_tree.proofs.empty.is_empty.Given as goal
 
 -- the keys at so many places
 abbrev pub invariant-loop-digit : goal.invariant-loop-digit
