@@ -78,8 +78,8 @@ fn tree_pages(owner: NodeOwner) -> PageOwner
     }
 }
 
-// The owner of the pages that are taken for a space.
-fn page_owner<T: Store>(store: &T, space: Space) -> PageOwner
+/// The owner of the pages that are taken for a space: of memory, or of a file.
+pub fn page_owner<T: Store>(store: &T, space: Space) -> PageOwner
     requires good { BankGood (kernel_of (T.memory store.now)) }
     requires space { IsSpace (forest_of (kernel_of (T.memory store.now))) [] space.0.0 }
     ensures { page_tree result ≡ (forest_of (kernel_of (T.memory store.now))).owner (NodeObject space.0.0) }
