@@ -1,0 +1,7 @@
+//! Tests of spaces, and of the bytes in them. Calls on spaces ask for much; `guarded` has them behind a look at the store, so
+//! that tests and measurements may make them in any order.
+#![tactic(auto)]
+
+pub mod guarded;
+#[cfg(test)]
+mod rows;
