@@ -1,0 +1,3 @@
+pub mod NewWalks
+pub mod BootEntries
+pub mod Room

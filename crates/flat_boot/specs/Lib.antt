@@ -1,0 +1,3 @@
+pub mod NewPaths
+pub mod Making
+pub mod Starts
