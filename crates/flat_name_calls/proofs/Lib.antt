@@ -1,1 +1,3 @@
 pub mod MakingLaws
+pub mod OpeningLaws
+pub mod RenamingLaws
