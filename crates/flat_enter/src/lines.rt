@@ -1,6 +1,6 @@
 //! The lines of the calls that are sent.
 
-ghost use Rattle.std.specs.Prelude.{◌≡◌, ◌≤◌, [], length};
+ghost use Rattle.std.specs.Prelude.{◌≡◌, ◌≢◌, ◌≤◌, [], length};
 ghost use Rattle.unix_model.specs.Enter.{are_flags, descriptor_enters, dup2_enters, fstat_enters, ftruncate_enters, getdents_enters, is_given, kill_enters, lseek_enters, open_enters, path_enters, paths_enter, pipe_enters, read_enters, wait_enters, waitpid_enters, write_enters};
 ghost use Rattle.flat_memory.specs.MemoryView.{memory_of};
 ghost use Rattle.flat_state.specs.ProcessView.{process_of};
@@ -87,6 +87,7 @@ pub fn one_path(
     call: Call,
     address: u32,
 ) -> Result<Phase, EnterFault>
+    requires { (call ≢ Call.Read) × (call ≢ Call.Getdents) }
     ensures { Enters (process_of process.now) (path_enters (process_of process.now) call address) result }
 {
     let text = match path(alloc, &process.memory, address) {
@@ -108,6 +109,7 @@ pub fn two_paths(
     old: u32,
     new: u32,
 ) -> Result<Phase, EnterFault>
+    requires { (call ≢ Call.Read) × (call ≢ Call.Getdents) }
     ensures { Enters (process_of process.now) (paths_enter (process_of process.now) call old new) result }
 {
     let from = match path(alloc, &process.memory, old) {
@@ -140,6 +142,7 @@ pub fn descriptor(
     call: Call,
     number: u32,
 ) -> Result<Phase, EnterFault>
+    requires { (call ≢ Call.Read) × (call ≢ Call.Getdents) }
     ensures { Enters (process_of process.now) (descriptor_enters (unix_of state.now) (process_of process.now) call number) result }
 {
     match state.opened(process, number) {

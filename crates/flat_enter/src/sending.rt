@@ -1,6 +1,6 @@
 //! Calls that are sent to their servers.
 
-ghost use Rattle.std.specs.Prelude.{◌≡◌, ◌∷◌, ◌++◌, [], ◌+◌, ◌≤◌, IfOk, length};
+ghost use Rattle.std.specs.Prelude.{◌≡◌, ◌≢◌, ◌∷◌, ◌++◌, [], ◌+◌, ◌≤◌, IfOk, length};
 ghost use Rattle.unix_model.specs.Enter.{arguments, arguments_cut, sends, sends_cut, with_nul};
 ghost use Rattle.unix_model.specs.Process as model;
 ghost use Rattle.flat_state.specs.ProcessView.{phase_of, process_of};
@@ -22,9 +22,10 @@ fn arguments(process: &Process) -> [u32; 4]
     ]
 }
 
-/// A call with its arguments and these bytes.
+/// A call, without a count that is cut, with its arguments and these bytes.
 pub fn send(process: &Process, call: Call, bytes: Vec<u8>) -> Result<Phase, EnterFault>
-    requires { length bytes.items ≤ 4096 }
+    requires few { length bytes.items ≤ 4096 }
+    requires whole { (call ≢ Call.Read) × (call ≢ Call.Getdents) }
     ensures { Enters (process_of process.now) (sends (process_of process.now) call bytes.items) result }
 {
     Ok(Phase::Sent(SentCall {

@@ -4,6 +4,7 @@
 mod answer;
 mod ended_child;
 mod heap;
+mod pace;
 mod phases;
 mod process;
 mod sent_call;
@@ -14,6 +15,7 @@ mod state;
 pub use answer::Answer;
 pub use ended_child::EndedChild;
 pub use heap::Heap;
+pub use pace::Pace;
 pub use process::{Phase, Process};
 pub use sent_call::SentCall;
 pub use slots::Slots;

@@ -2,6 +2,7 @@
 
 use crate::answer::Answer;
 use crate::heap::Heap;
+use crate::pace::Pace;
 use crate::phases::{is_description, phase_after};
 use crate::sent_call::SentCall;
 use flat_memory::{Memory, Program, execute};
@@ -55,6 +56,7 @@ impl Process {
     ghost use Rattle.unix_model.specs.Elf.{LoadPlan};
     ghost use Rattle.unix_model.specs.Loading.{image, start_registers};
     ghost use Rattle.flat_memory.specs.MemoryView.{memory_of};
+    ghost use Rattle.flat_state.specs.PaceView.{phase_pace};
     ghost use Rattle.flat_state.specs.ProcessView.{process_of, phase_of};
 
     /// One instruction.
@@ -267,6 +269,17 @@ impl Process {
         match self.phase {
             Phase::Zombie(word) => Some(word),
             _ => None,
+        }
+    }
+
+    /// What a turn of it has to do.
+    pub fn pace(&self) -> Pace
+        ensures { result ≡ phase_pace (process_of self.now).phase }
+    {
+        match self.phase {
+            Phase::Run => Pace::Running,
+            Phase::Zombie(_) => Pace::Free,
+            _ => Pace::Other,
         }
     }
 

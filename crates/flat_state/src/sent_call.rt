@@ -1,6 +1,7 @@
 //! System calls on their way.
 
 ghost use Rattle.std.specs.Prelude.{◌≤◌, length};
+ghost use Rattle.flat_state.specs.SentCount.{HasSmallCount};
 
 use unix_model::Call;
 
@@ -13,4 +14,5 @@ pub struct SentCall {
     /// The bytes that it brings, at most 4,096.
     pub bytes: Vec<u8>,
     ghost few: { length bytes.items ≤ 4096 },
+    ghost small_count: { HasSmallCount call arguments },
 }

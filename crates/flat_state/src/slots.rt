@@ -6,6 +6,7 @@ ghost use Rattle.unix_model.specs.Tables.{at, sum_below};
 ghost use Rattle.flat_state.specs.SlotTableView.{slot_table_of};
 
 use crate::ended_child::{EndedChild, lesser_pid};
+use crate::pace::Pace;
 use crate::process::Process;
 use crate::slot_table::SlotTable;
 use std::alloc::{AllocError, Global};
@@ -26,6 +27,7 @@ impl Slots {
     ghost use Rattle.unix_model.specs.Tables.{any_below, at, least_below, with_at, nothing, sum_below};
     ghost use Rattle.unix_model.specs.Room.{process_pages};
     ghost use Rattle.unix_model.specs.Turn.{ran};
+    ghost use Rattle.flat_state.specs.PaceView.{pace_of};
     ghost use Rattle.flat_state.specs.ProcessView.{process_of};
     ghost use Rattle.flat_state.specs.SlotsView.{slots_of};
 
@@ -234,6 +236,17 @@ impl Slots {
         match self.table.get(0) {
             Some(process) => process.word(),
             None => None,
+        }
+    }
+
+    /// What a turn of a slot has to do. The process stays where it is.
+    pub fn pace(&self, slot: u8) -> Pace
+        requires { slot < 64 }
+        ensures { result ≡ pace_of (at (slots_of self.now) slot) }
+    {
+        match self.table.get(slot) {
+            Some(process) => process.pace(),
+            None => Pace::Free,
         }
     }
 
