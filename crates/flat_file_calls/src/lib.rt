@@ -1,8 +1,11 @@
 //! The calls on open files of the plain machine: their effects at the server.
 #![tactic(auto)]
 
+mod console;
 mod descriptors;
+mod fault;
 mod lengths;
+mod lines;
 mod listing;
 mod offsets;
 mod pipe_ends;
@@ -11,9 +14,10 @@ mod stored;
 mod writes;
 
 pub use descriptors::{close, dup, dup2, with_descriptor};
+pub use fault::ConsoleFault;
 pub use lengths::ftruncate;
 pub use listing::getdents;
 pub use offsets::{fstat, lseek};
 pub use pipe_ends::pipe;
-pub use reads::read_stored;
-pub use writes::{write_file, write_pipe};
+pub use reads::read;
+pub use writes::write;

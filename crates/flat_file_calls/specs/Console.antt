@@ -1,0 +1,43 @@
+-- What reads and writes promise, of the console and of anything else.
+use Rattle.std.specs.Prelude.{◌≡◌, ℕ, ◌++◌, List, [], Option, Some}
+use Rattle.unix_model.specs.declared.calls.Turned.{Turned}
+use Rattle.unix_model.specs.Effect.{settled}
+use Rattle.unix_model.specs.FileCalls.{read_line, write_line}
+use Rattle.unix_model.specs.Process.{Process}
+use Rattle.unix_model.specs.State.{Unix}
+use Rattle.unix_model.specs.TurnRecord.{Turn}
+
+-- the turn of a read, by the console's input
+abbrev pub read_turn : Unix → ℕ → Process → (number address count : ℕ) → List ℕ → Turn
+read_turn unix slot process number address count input =
+    settled unix slot process input (read_line unix slot process input number address count)
+
+-- the turn of a write, by the console's input
+abbrev pub write_turn : Unix → ℕ → Process → (number : ℕ) → (written : List ℕ) → List ℕ → Turn
+write_turn unix slot process number written input =
+    settled unix slot process input (write_line unix slot process number written)
+
+-- a read leaves the state, the answer and the input of its turn, and puts nothing
+pub record Reads {S : Type 0} (turn : Turn) (left : S → Option (List ℕ)) (state : Unix) (answer : Turned) (source : S) : Type 0 where
+  pub state_is : state ≡ turn.state
+  pub answer_is : answer ≡ turn.answer
+  pub source_left : left source ≡ Some turn.left
+  pub nothing_put : turn.put ≡ []
+
+-- a write leaves the state and the answer of its turn, whatever the input, of which it takes nothing; and the sink got
+-- what the turn puts
+pub record Writes {K : Type 0} (turn : List ℕ → Turn) (grew : K → List ℕ → K → Type 0) (state : Unix) (answer : Turned) (old new : K) : Type 0 where
+  pub state_is : (input : List ℕ) → state ≡ (turn input).state
+  pub answer_is : (input : List ℕ) → answer ≡ (turn input).answer
+  pub nothing_taken : (input : List ℕ) → (turn input).taken ≡ []
+  pub left_is : (input : List ℕ) → (turn input).left ≡ input
+  pub sink_grew : (input : List ℕ) → grew old (turn input).put new
+
+-- of an input a front of these bytes is gone
+pub record TakesFront (input bytes : List ℕ) (now : Option (List ℕ)) : Type 0 where
+  pub front : List ℕ
+  pub behind : List ℕ
+  pub left : List ℕ
+  pub front_is : front ++ behind ≡ bytes
+  pub input_is : input ≡ front ++ left
+  pub left_is : now ≡ Some left
