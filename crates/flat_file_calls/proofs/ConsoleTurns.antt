@@ -16,7 +16,7 @@ use Rattle.unix_model.specs.State.{Unix, Opened, opened, opened_inode, with_file
 use Rattle.unix_model.specs.TurnRecord.{Turn, worked_turn}
 use Rattle.unix_model.proofs.TableLaws.{with_at-twice}
 use Rattle.flat_state.specs.Settles.{Settles}
-use Rattle.flat_file_calls.specs.declared.fault.ConsoleFault.{ConsoleFault}
+use Rattle.flat_file_calls.specs.declared.console.fault.ConsoleFault.{ConsoleFault}
 use Rattle.flat_file_calls.specs.Console.{Reads, Writes, read_turn, write_turn}
 use Rattle.flat_file_calls.proofs.ConsoleLaws.{taken-next}
 

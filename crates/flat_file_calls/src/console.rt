@@ -12,11 +12,14 @@ ghost use Rattle.flat_state.specs.ProcessView.{process_of};
 ghost use Rattle.flat_state.specs.StateView.{unix_of};
 ghost use Rattle.flat_file_calls.specs.Console.{TakesFront};
 
-use crate::fault::ConsoleFault;
-use crate::lines::take_line;
+mod fault;
+mod lines;
+
+pub use fault::ConsoleFault;
 use flat_files::Inode;
 use flat_state::{Answer, Process, State};
 use kn_io::{Failed, Sink, Source};
+use lines::take_line;
 use std::alloc::Global;
 use unix_model::Turned;
 

@@ -3,9 +3,7 @@
 
 mod console;
 mod descriptors;
-mod fault;
 mod lengths;
-mod lines;
 mod listing;
 mod offsets;
 mod pipe_ends;
@@ -13,8 +11,8 @@ mod reads;
 mod stored;
 mod writes;
 
+pub use console::ConsoleFault;
 pub use descriptors::{close, dup, dup2, with_descriptor};
-pub use fault::ConsoleFault;
 pub use lengths::ftruncate;
 pub use listing::getdents;
 pub use offsets::{fstat, lseek};

@@ -12,8 +12,7 @@ ghost use Rattle.flat_state.specs.Settles.{Settles};
 ghost use Rattle.flat_state.specs.StateView.{unix_of};
 ghost use Rattle.flat_file_calls.specs.Console.{Reads, TakesFront, read_turn};
 
-use crate::console::{is_console, read_console};
-use crate::fault::ConsoleFault;
+use crate::console::{ConsoleFault, is_console, read_console};
 use crate::offsets::set_offset;
 use flat_files::{Inode, Opened};
 use flat_state::{Answer, Process, State};

@@ -14,8 +14,7 @@ ghost use Rattle.flat_state.specs.Settles.{Settles};
 ghost use Rattle.flat_state.specs.StateView.{unix_of};
 ghost use Rattle.flat_file_calls.specs.Console.{Writes, write_turn};
 
-use crate::console::{is_console, write_console};
-use crate::fault::ConsoleFault;
+use crate::console::{ConsoleFault, is_console, write_console};
 use crate::offsets::set_offset;
 use crate::stored::{append, overwrite};
 use flat_files::{Description, Inode, Opened, front};

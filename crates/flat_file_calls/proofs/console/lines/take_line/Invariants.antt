@@ -1,6 +1,6 @@
 use Rattle.std.proofs.Common.{◌≡◌, ◌≤◌, ◌+◌, ℕ, List, Some, vec_len}
 use Rattle.flat_file_calls.proofs.ConsoleLaws.{Begins}
-use Rattle.flat_file_calls.proofs.lines.take_line.Given as goal
+use Rattle.flat_file_calls.proofs.console.lines.take_line.Given as goal
 
 abbrev pub invariant-taking : goal.invariant-taking
 invariant-taking g l = record {

@@ -5,9 +5,12 @@ ghost use Rattle.kn_io.specs.Faults.{Rose};
 ghost use Rattle.unix_model.specs.FileCalls.{line_left, line_taken};
 ghost use Rattle.flat_file_calls.specs.Console.{TakesFront};
 
-use crate::fault::ConsoleFault;
+use crate::console::fault::ConsoleFault;
 use kn_io::{Failed, Source};
 use std::alloc::Global;
+
+/// The byte that ends a line (ASCII, LF).
+const LINE_FEED: u8 = 10;
 
 /// Takes at most `count` bytes of a source, up to and with the first line feed.
 pub(crate) fn take_line<S: Source>(
@@ -35,7 +38,7 @@ pub(crate) fn take_line<S: Source>(
             Ok(()) => {}
             Err(_) => return Err(ConsoleFault::NoMemory),
         }
-        if byte == b'\n' {
+        if byte == LINE_FEED {
             return Ok(line);
         }
         room -= 1;

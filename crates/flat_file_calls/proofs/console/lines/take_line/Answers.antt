@@ -2,7 +2,7 @@ use Rattle.std.proofs.Common.{◌≡◌, ◌<◌, ◌-◌, ◌≤◌, ◌+◌, �
 use Rattle.std.proofs.lemmas.Bool.Decides.{nat_tests}
 use Rattle.kn_io.specs.Source.{Takes, IsAtEnd}
 use Rattle.flat_file_calls.proofs.ConsoleLaws.{Begins, line-ends, line-goes, full-taken, full-left, at-end, begun-front, lost-front}
-use Rattle.flat_file_calls.proofs.lines.take_line.Goals as goal
+use Rattle.flat_file_calls.proofs.console.lines.take_line.Goals as goal
 
 pub returns-in-Ok-None-clause-taken : goal.returns-in-Ok-None-clause-taken
 returns-in-Ok-None-clause-taken g c = λ bytes told.
@@ -26,23 +26,23 @@ returns-in-Err-push-clause-part g c = λ bytes told.
     let takes = rw c.in-Ok-Some.field-0-is at c.in-Ok-Some.ensures.gives in
     lost-front c.args.count bytes c.taking.line.items c.taking.room c.in-Ok-Some.byte (g.S.Source.left c.taking.from) (g.S.Source.left c.next.new.self) c.taking-test.true (c.taking.invariant.so_far bytes told) takes
 
-pub returns-then-byte-eq10-clause-taken : goal.returns-then-byte-eq10-clause-taken
-returns-then-byte-eq10-clause-taken g c = λ bytes told.
+pub returns-then-byte-eq-LINE_FEED-clause-taken : goal.returns-then-byte-eq-LINE_FEED-clause-taken
+returns-then-byte-eq-LINE_FEED-clause-taken g c = λ bytes told.
     let takes = rw c.in-Ok-Some.field-0-is at c.in-Ok-Some.ensures.gives in
     full-taken c.args.count bytes c.push.new.self.items (g.S.Source.left c.next.new.self) (g.S.Source.left c.next.new.self) 0 refl
-    (line-ends c.args.count bytes c.taking.line.items c.taking.room c.in-Ok-Some.byte (g.S.Source.left c.taking.from) (g.S.Source.left c.next.new.self) c.taking-test.true (c.taking.invariant.so_far bytes told) takes c.push.new.self.items c.in-Ok.ensures.items c.if-byte-eq10.true)
+    (line-ends c.args.count bytes c.taking.line.items c.taking.room c.in-Ok-Some.byte (g.S.Source.left c.taking.from) (g.S.Source.left c.next.new.self) c.taking-test.true (c.taking.invariant.so_far bytes told) takes c.push.new.self.items c.in-Ok.ensures.items c.if-byte-eq-LINE_FEED.true)
 
-pub returns-then-byte-eq10-clause-left : goal.returns-then-byte-eq10-clause-left
-returns-then-byte-eq10-clause-left g c = λ bytes told.
+pub returns-then-byte-eq-LINE_FEED-clause-left : goal.returns-then-byte-eq-LINE_FEED-clause-left
+returns-then-byte-eq-LINE_FEED-clause-left g c = λ bytes told.
     let takes = rw c.in-Ok-Some.field-0-is at c.in-Ok-Some.ensures.gives in
     full-left c.args.count bytes c.push.new.self.items (g.S.Source.left c.next.new.self) (g.S.Source.left c.next.new.self) 0 refl
-    (line-ends c.args.count bytes c.taking.line.items c.taking.room c.in-Ok-Some.byte (g.S.Source.left c.taking.from) (g.S.Source.left c.next.new.self) c.taking-test.true (c.taking.invariant.so_far bytes told) takes c.push.new.self.items c.in-Ok.ensures.items c.if-byte-eq10.true)
+    (line-ends c.args.count bytes c.taking.line.items c.taking.room c.in-Ok-Some.byte (g.S.Source.left c.taking.from) (g.S.Source.left c.next.new.self) c.taking-test.true (c.taking.invariant.so_far bytes told) takes c.push.new.self.items c.in-Ok.ensures.items c.if-byte-eq-LINE_FEED.true)
 
 pub taking-preserved : goal.taking-preserved
 taking-preserved g c =
     let takes = rw c.in-Ok-Some.field-0-is at c.in-Ok-Some.ensures.gives in
     record {
-      so_far = λ bytes told. line-goes c.args.count bytes c.taking.line.items c.taking.room c.in-Ok-Some.byte (g.S.Source.left c.taking.from) (g.S.Source.left c.next.new.self) c.taking-test.true (c.taking.invariant.so_far bytes told) takes c.push.new.self.items c.in-Ok.ensures.items c.if-byte-eq10.false;
+      so_far = λ bytes told. line-goes c.args.count bytes c.taking.line.items c.taking.room c.in-Ok-Some.byte (g.S.Source.left c.taking.from) (g.S.Source.left c.next.new.self) c.taking-test.true (c.taking.invariant.so_far bytes told) takes c.push.new.self.items c.in-Ok.ensures.items c.if-byte-eq-LINE_FEED.false;
       few = omega (arith, c.in-Ok.ensures.len, c.taking.invariant.few, c.taking-test.true);
       counted = omega (arith, c.taking.invariant.counted, c.in-Ok-Some.ensures.counted);
     }
