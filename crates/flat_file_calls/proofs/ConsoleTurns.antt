@@ -1,11 +1,11 @@
 -- The turns of reads and writes: by the console, and by anything else, which takes nothing from the input and puts nothing.
-use Rattle.std.proofs.Common.{◌≡◌, ℕ, zero, suc, ◌+◌, ◌<◌, ◌-◌, Bool, true, false, Option, Some, None, Ok, Err, List, [], ◌∷◌, ◌++◌, take, length, arith, refl, ap, sym, subst, ◌∙◌}
-use Rattle.std.specs.Prelude.{◌≢◌, ◌==◌, ◌&&◌, if◌then◌else◌, Result, IfOk, nat_le, nat_lt}
+use Rattle.std.proofs.Common.{◌≡◌, ℕ, ◌+◌, ◌<◌, ◌-◌, Bool, true, false, Option, Some, None, Ok, Err, List, [], ◌∷◌, ◌++◌, take, length, refl, ap, sym, subst, ◌∙◌}
+use Rattle.std.specs.Prelude.{◌≢◌, ◌==◌, if◌then◌else◌, Result, IfOk, nat_le, nat_lt}
 use Rattle.unix_model.specs.declared.calls.Errno.{Errno}
 use Rattle.unix_model.specs.declared.calls.Errno.TheVariants.{Efbig, Enospc, Epipe}
 use Rattle.unix_model.specs.declared.calls.Turned.{Turned}
 use Rattle.unix_model.specs.declared.calls.Turned.TheVariants.{Worked}
-use Rattle.unix_model.specs.Effect.{Effect, Line, Waits, Goes, Takes, Puts, replies, settled}
+use Rattle.unix_model.specs.Effect.{Line, Waits, Goes, Takes, Puts, replies, settled}
 use Rattle.unix_model.specs.FileCalls.{line_left, line_taken, writes_to, write_line, with_contents, with_written, write_place}
 use Rattle.unix_model.specs.Files.{Inode, File, Directory, Pipe, Console, has_reader}
 use Rattle.unix_model.specs.Limits.{most_file_bytes, pipe_bytes}

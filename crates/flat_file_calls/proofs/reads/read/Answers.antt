@@ -1,10 +1,10 @@
-use Rattle.std.proofs.Common.{◌≡◌, ◌<◌, ℕ, List, [], ◌∷◌, length, Some, true, false, arith, refl, ap, sym, ◌∙◌}
+use Rattle.std.proofs.Common.{◌≡◌, ◌<◌, ℕ, List, [], ◌∷◌, length, true, false, arith, refl, ap, sym, ◌∙◌}
 use Rattle.std.proofs.lemmas.Bool.Decides.{nat_tests}
 use Rattle.std.specs.Prelude.{◌==◌}
-use Rattle.unix_model.specs.FileCalls.{line_left, line_taken}
+use Rattle.unix_model.specs.FileCalls.{line_taken}
 use Rattle.unix_model.specs.Process as model
 use Rattle.unix_model.specs.Process.{answered, answered_with}
-use Rattle.unix_model.specs.State.{Unix, Opened, opened, with_phase, with_process}
+use Rattle.unix_model.specs.State.{Unix, with_phase, with_process}
 use Rattle.unix_model.specs.TurnRecord.{Turn, worked_turn}
 use Rattle.flat_files.specs.OpenedView.{opened_of}
 use Rattle.flat_state.specs.ProcessView.{process_of}

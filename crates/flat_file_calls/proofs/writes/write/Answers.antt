@@ -1,12 +1,11 @@
-use Rattle.std.proofs.Common.{◌≡◌, ◌<◌, ℕ, List, [], ◌∷◌, length, Some, true, false, arith, refl, ap, sym, subst, ◌∙◌}
+use Rattle.std.proofs.Common.{◌≡◌, [], length, true, false, arith, refl, sym, subst, ◌∙◌}
 use Rattle.std.proofs.lemmas.Bool.Decides.{nat_tests}
 use Rattle.std.specs.Prelude.{◌==◌}
 use Rattle.unix_model.specs.Effect.{Line, settled}
-use Rattle.unix_model.specs.FileCalls.{writes_to, write_line}
+use Rattle.unix_model.specs.FileCalls.{writes_to}
 use Rattle.unix_model.specs.Process as model
 use Rattle.unix_model.specs.Process.{answered}
-use Rattle.unix_model.specs.State.{Unix, Opened, opened, opened_inode, with_phase, with_process}
-use Rattle.unix_model.specs.TurnRecord.{Turn, worked_turn}
+use Rattle.unix_model.specs.State.{Unix, Opened, opened_inode, with_phase, with_process}
 use Rattle.flat_files.specs.OpenedView.{opened_of}
 use Rattle.flat_state.specs.ProcessView.{process_of}
 use Rattle.flat_state.specs.StateView.{unix_of}

@@ -1,6 +1,5 @@
-use Rattle.std.proofs.Common.{◌≡◌, ◌<◌, ◌-◌, ◌≤◌, ◌+◌, ℕ, List, [], ◌∷◌, ◌++◌, Some, None, Bool, true, false, arith, refl, sym, subst, vec_len}
+use Rattle.std.proofs.Common.{◌≡◌, arith, refl, sym, subst}
 use Rattle.std.proofs.lemmas.Bool.Decides.{nat_tests}
-use Rattle.kn_io.specs.Source.{Takes, IsAtEnd}
 use Rattle.flat_file_calls.proofs.ConsoleLaws.{Begins, line-ends, line-goes, full-taken, full-left, at-end, begun-front, lost-front}
 use Rattle.flat_file_calls.proofs.console.lines.take_line.Goals as goal
 
