@@ -40,6 +40,14 @@ impl Slots {
         Ok(Slots { table, pages: 0 })
     }
 
+    /// The process of a slot.
+    pub fn get(&self, slot: u8) -> Option<&Process>
+        requires { slot < 64 }
+        ensures { option_map (λ process. process_of process.now) result ≡ at (slots_of self.now) slot }
+    {
+        self.table.get(slot)
+    }
+
     /// Takes the process out of a slot, which is then free.
     #[tactic(auto, using(unix_model::proofs::RoomLaws::slot_pages))]
     pub fn take(&mut self, slot: u8) -> Option<Process>

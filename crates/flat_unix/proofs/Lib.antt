@@ -1,10 +1,3 @@
-pub mod ConsoleLaws
-pub mod StoreSteps
-pub mod FilesFacts
-pub mod PageWrites
-pub mod SlotLaws
-pub mod SlotBounds
+pub mod QuietLines
 pub mod TurnSteps
-pub mod ImageLaws
-pub mod MapLaws
-pub mod DirectoryLaws
+pub mod FreeTurns

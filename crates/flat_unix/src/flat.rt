@@ -1,20 +1,12 @@
 //! The machine.
 
-ghost use Rattle.std.specs.Prelude.{◌≡◌, ◌*◌, ◌<◌, ◌≤◌};
-ghost use Rattle.unix_model.specs.Calls.{refusal_word};
-ghost use Rattle.unix_model.specs.Process.{answered};
-ghost use Rattle.flat_unix.specs.ProcessView.{phase_of};
-
-use crate::calls::ServedCall;
-use crate::files::Files;
-use crate::inode::Inode;
-use crate::opened::Opened;
-use crate::process::{Phase, Process};
-use crate::sent_call::SentCall;
-use crate::slots::Slots;
-use kn_io::{Failed, Sink, Source};
-use std::alloc::{AllocError, Global};
-use unix_model::{ElfFault, Errno, Turned, WaitWord};
+use crate::turning::step;
+use crate::waiting::works;
+use flat_boot::file_at;
+use flat_state::{Pace, State};
+use kn_io::{Sink, Source};
+use std::alloc::Global;
+use unix_model::{ElfFault, Regs, Turned, WaitWord};
 
 /// Why a call of the machine failed.
 #[derive(Clone, Copy, Debug, PartialEq, Eq)]
@@ -34,42 +26,30 @@ pub enum FlatFault {
 /// A machine of 64 process slots with its files.
 #[derive(Drop)]
 pub struct Flat {
-    pub(crate) slots: Slots,
-    pub(crate) files: Files,
-    pub(crate) next_pid: u32,
-    /// The pages that the machine may promise.
-    pub(crate) pages: u32,
-    /// The turns that a slot is given in a row.
-    pub(crate) quantum: u32,
-    /// The turns since the round began.
-    pub(crate) position: u32,
-    ghost few_pages: { pages ≤ 16384 },
-    ghost small_quantum: { quantum ≤ 10000 },
-    ghost in_round: { position < 64 * quantum },
+    pub(crate) state: State,
 }
 
 impl Flat {
-    ghost use Rattle.std.specs.Prelude.{◌≡◌, ℕ, ◌<◌, ◌≤◌, Bool, List, [], Option, Some, None, Err, IfOk, IfErr, OnErr, option_map};
+    ghost use Rattle.std.specs.Prelude.{◌≡◌, ℕ, ◌<◌, ◌≤◌, Bool, true, List, [], Option, Some, None, Err, IfOk, IfErr, OnErr, option_map};
     ghost use Rattle.kn_io.specs.Faults.{Rose};
     ghost use Rattle.kn_io.specs.Sink.{GrewByPrefix};
-    ghost use Rattle.unix_model.specs.declared.calls.Turned.TheVariants.{Worked};
-    ghost use Rattle.unix_model.specs.Enter.{entered, or_refused, write_enters};
-    ghost use Rattle.unix_model.specs.Process.{argument, descriptor, in_phase, lowest_open};
-    ghost use Rattle.unix_model.specs.Schedule.{Round, is_idle, is_work, next_slot};
-    ghost use Rattle.unix_model.specs.State.{halted_word, opened, with_phase, with_process, with_description_released, with_descriptor_closed};
+    ghost use Rattle.unix_model.specs.Calls.{call_of};
+    ghost use Rattle.unix_model.specs.Paths.{file_at};
+    ghost use Rattle.unix_model.specs.Schedule.{Round, is_idle, next_slot};
+    ghost use Rattle.unix_model.specs.State.{halted_word};
     ghost use Rattle.unix_model.specs.Tables.{at};
-    ghost use Rattle.unix_model.specs.Turn.{turned, turned_at, turned_in, exit_step, ticked, MakesTurn};
+    ghost use Rattle.unix_model.specs.Turn.{turned, ticked, MakesTurn};
+    ghost use Rattle.unix_model.specs.TurnRecord.{free_turn};
+    ghost use Rattle.flat_file_calls.specs.Console.{TakesFront};
     ghost use Rattle.flat_unix.specs.FlatView.{unix_of};
-    ghost use Rattle.flat_unix.specs.OpenedView.{opened_of};
-    ghost use Rattle.flat_unix.specs.ProcessView.{process_of, phase_of, sent_call_of};
-    ghost use Rattle.flat_unix.specs.ServedCalls.{served_calls};
-    ghost use Rattle.flat_unix.specs.Steps.{Steps, IsTurnFault, write_turn};
+    ghost use Rattle.flat_unix.specs.FreeTurns.{after_turns, has_nothing_to_do, ticked_times};
+    ghost use Rattle.flat_unix.specs.Turns.{IsTurnFault};
 
     /// The wait word of process slot 0; None exactly where that isn't a zombie.
     pub fn halted(&self) -> Option<WaitWord>
         ensures { option_map (λ word. word.0) result ≡ halted_word (unix_of self.now) }
     {
-        match self.slots.first_word() {
+        match self.state.slots.first_word() {
             Some(word) => Some(WaitWord(word)),
             None => None,
         }
@@ -79,7 +59,7 @@ impl Flat {
     pub fn position(&self) -> u32
         ensures { result ≡ (unix_of self.now).position }
     {
-        self.position
+        self.state.position
     }
 
     /// The slot whose turn it is where the turns go round.
@@ -87,142 +67,59 @@ impl Flat {
         ensures slot { (mark : Option Bool) → result ≡ next_slot (unix_of self.now) (Round mark) }
         ensures below { result < 64 }
     {
-        (self.position / self.quantum) as u8
+        (self.state.position / self.state.quantum) as u8
+    }
+
+    /// The registers of the process in a slot below 64; None exactly where the slot is free.
+    pub fn regs(&self, slot: u8) -> Option<Regs>
+        requires { slot < 64 }
+        ensures { result ≡ option_map (λ process. process.registers) (at (unix_of self.now).processes slot) }
+    {
+        match self.state.slots.get(slot) {
+            Some(process) => Some(process.registers),
+            None => None,
+        }
+    }
+
+    /// The bytes of the file at a path from the root; None exactly where the path names no file.
+    pub fn file_bytes(&self, path: &[u8]) -> Option<&[u8]>
+        ensures { option_map (λ bytes. bytes.now) result ≡ file_at (unix_of self.now).files path.now }
+    {
+        file_at(&self.state.files, path)
+    }
+
+    /// Whether the machine is idle: no turn of a slot works, since each is free, a zombie, or waits.
+    #[tactic(auto, using(unix_model::proofs::TableLaws::steps), unfolding(unix_model::specs::Schedule::is_idle))]
+    pub fn is_idle(&self) -> bool
+        ensures { result ≡ is_idle call_of (unix_of self.now) }
+    {
+        let mut found = false;
+        for slot in 0..64u8 {
+            found = found || works(&self.state, slot);
+        }
+        !found
     }
 
     /// The position goes on with every turn.
     fn tick(&mut self)
         ensures { unix_of self.new ≡ ticked (unix_of self.old) }
     {
-        self.position = if self.position + 1 == 64 * self.quantum {
+        let next = self.state.position + 1;
+        self.state.position = if next == 64 * self.state.quantum {
             0
         } else {
-            self.position + 1
+            next
         };
-    }
-
-    /// Puts a process into a slot.
-    fn put(&mut self, slot: u8, process: Process)
-        requires { slot < 64 }
-        ensures { unix_of self.new ≡ with_process (unix_of self.old) slot (process_of process) }
-    {
-        self.slots.put(slot, process);
-    }
-
-    /// A system call at the keeper: the phase of a process in Asked after its turn.
-    #[tactic(auto, unfolding(unix_model::specs::Enter::entered_line))]
-    fn enter(&self, alloc: Global, process: &Process) -> Result<Phase, AllocError>
-        ensures { IfOk result (λ phase. (slot : ℕ) → in_phase (process_of process.now) (phase_of phase) ≡ entered served_calls (with_process (unix_of self.now) slot (process_of process.now)) slot (process_of process.now)) }
-    {
-        match ServedCall::of(process.argument(7)) {
-            Some(ServedCall::Exit) => Ok(Phase::Sent(SentCall {
-                call: ServedCall::Exit,
-                arguments: [
-                    process.argument(0),
-                    process.argument(1),
-                    process.argument(2),
-                    process.argument(3),
-                ],
-                bytes: Vec::new(alloc),
-            })),
-            Some(ServedCall::Write) => self.enter_write(alloc, process),
-            None => Ok(refused(Errno::Enosys)),
-        }
-    }
-
-    /// The line of write(descriptor, address, count).
-    fn enter_write(&self, alloc: Global, process: &Process) -> Result<Phase, AllocError>
-        ensures { IfOk result (λ phase. (slot : ℕ) → in_phase (process_of process.now) (phase_of phase) ≡ or_refused (process_of process.now) (write_enters (with_process (unix_of self.now) slot (process_of process.now)) (process_of process.now) (argument (process_of process.now) 0) (argument (process_of process.now) 1) (argument (process_of process.now) 2))) }
-    {
-        let file = match self.opened(process, process.argument(0)) {
-            Some(file) => file,
-            None => return Ok(refused(Errno::Ebadf)),
-        };
-        if !file.description.writable {
-            return Ok(refused(Errno::Ebadf));
-        }
-        let count = process.argument(2).min(4096);
-        match process.memory.bytes(alloc, process.argument(1), count)? {
-            Some(bytes) => Ok(Phase::Sent(SentCall {
-                call: ServedCall::Write,
-                arguments: [
-                    process.argument(0),
-                    process.argument(1),
-                    count,
-                    process.argument(3),
-                ],
-                bytes,
-            })),
-            None => Ok(refused(Errno::Efault)),
-        }
-    }
-
-    /// What a descriptor of a process is open on, or None where it is closed or no descriptor.
-    fn opened(&self, process: &Process, number: u32) -> Option<Opened>
-        ensures { option_map opened_of result ≡ opened (unix_of self.now) (process_of process.now) number }
-    {
-        let number = match process.descriptor(number) {
-            Some(number) => number,
-            None => return None,
-        };
-        match self.files.description(number) {
-            Some(description) => Some(Opened {
-                number,
-                description,
-            }),
-            None => None,
-        }
-    }
-
-    /// One step of an exit: the lowest open descriptor is closed, or the process becomes a zombie.
-    #[tactic(auto, using(unix_model::proofs::TableLaws::tables))]
-    fn exit_step(&mut self, alloc: Global, slot: u8, process: Process, word: u32)
-        requires { slot < 64 }
-        ensures { unix_of self.new ≡ exit_step (with_process (unix_of self.old) slot (process_of process)) slot (process_of process) word (lowest_open (process_of process)) }
-    {
-        match process.lowest_open() {
-            Some(number) => self.close(slot, process, number),
-            None => {
-                let pid = process.pid;
-                self.put(slot, process.into_zombie(alloc, word));
-                self.slots.adopt_orphans(pid);
-            }
-        }
-    }
-
-    /// Closes a descriptor of a process, and puts the process into its slot.
-    #[tactic(auto, using(unix_model::proofs::TableLaws::tables))]
-    fn close(&mut self, slot: u8, process: Process, number: u32)
-        requires slot { slot < 64 }
-        requires number { number < 32 }
-        ensures { unix_of self.new ≡ with_descriptor_closed (with_process (unix_of self.old) slot (process_of process)) slot (process_of process) number (descriptor (process_of process) number) }
-    {
-        match process.descriptor(number) {
-            Some(description) => {
-                self.put(slot, process.without_descriptor(number));
-                self.release(description);
-            }
-            None => self.put(slot, process),
-        }
-    }
-
-    /// Frees a description that has no descriptor any more.
-    fn release(&mut self, description: u16)
-        ensures { unix_of self.new ≡ with_description_released (unix_of self.old) description }
-    {
-        if !self.slots.has_descriptor(description) {
-            self.files.free_description(description);
-        }
     }
 
     /// A turn of a slot below 64: the slot's process goes on by one step.
     ///
     /// # Errors
     ///
-    /// `WriteFault` only where the output's count of faults rose. The machine is then as before, and the output got a
-    /// front of what the turn puts. `NoMemory` is free; the machine is then given up. `ReadFault` comes with the first
-    /// call that reads the input, and no other fault comes.
-    #[tactic(auto, unfolding(unix_model::specs::Turn::turned))]
+    /// `ReadFault` only where the input's count of faults rose: the input then lost a front of what the turn takes.
+    /// `WriteFault` only where the output's count of faults rose: the output then got a front of what the turn puts. The
+    /// machine is as before at both, and no other call of the outside was made. `NoMemory` is free; the machine is then
+    /// given up. No other fault comes.
     pub fn turn<S: Source, K: Sink>(
         &mut self,
         alloc: Global,
@@ -231,22 +128,18 @@ impl Flat {
         output: &mut K,
     ) -> Result<Turned, FlatFault>
         requires { slot < 64 }
-        ensures turn { IfOk result (λ answer. (bytes : List ℕ) → S.left input.old ≡ Some bytes → MakesTurn (turned served_calls (unix_of self.old) slot bytes) S.left K.grew (unix_of self.new) answer input.new output.old output.new) }
-        ensures unchanged { result ≡ Err FlatFault.WriteFault → unix_of self.new ≡ unix_of self.old }
-        ensures part { OnErr result ((bytes : List ℕ) → S.left input.old ≡ Some bytes → GrewByPrefix K.grew output.old (turned served_calls (unix_of self.old) slot bytes).put output.new) }
+        ensures turn { IfOk result (λ answer. (bytes : List ℕ) → S.left input.old ≡ Some bytes → MakesTurn (turned call_of (unix_of self.old) slot bytes) S.left K.grew (unix_of self.new) answer input.new output.old output.new) }
+        ensures read_fault { result ≡ Err FlatFault.ReadFault → (unix_of self.new ≡ unix_of self.old) × (output.new ≡ output.old) }
+        ensures write_fault { result ≡ Err FlatFault.WriteFault → (unix_of self.new ≡ unix_of self.old) × (input.new ≡ input.old) }
+        ensures lost { OnErr result ((bytes : List ℕ) → S.left input.old ≡ Some bytes → TakesFront bytes (turned call_of (unix_of self.old) slot bytes).taken (S.left input.new)) }
+        ensures part { OnErr result ((bytes : List ℕ) → S.left input.old ≡ Some bytes → GrewByPrefix K.grew output.old (turned call_of (unix_of self.old) slot bytes).put output.new) }
+        ensures takes_nothing { ((bytes : List ℕ) → (turned call_of (unix_of self.old) slot bytes).taken ≡ []) → input.new ≡ input.old }
+        ensures puts_nothing { ((bytes : List ℕ) → (turned call_of (unix_of self.old) slot bytes).put ≡ []) → output.new ≡ output.old }
         ensures cause { IfErr result (IsTurnFault (Rose (S.faults input.old) (S.faults input.new)) (Rose (K.faults output.old) (K.faults output.new))) }
-        ensures input_stays { input.new ≡ input.old }
         ensures input_counted { S.faults input.old ≤ S.faults input.new }
         ensures output_counted { K.faults output.old ≤ K.faults output.new }
     {
-        let process = match self.slots.take(slot) {
-            Some(process) => process,
-            None => {
-                self.tick();
-                return Ok(Turned::Free);
-            }
-        };
-        let answer = match self.turn_process(alloc, slot, process, output) {
+        let answer = match step(&mut self.state, alloc, slot, input, output) {
             Ok(answer) => answer,
             Err(fault) => return Err(fault),
         };
@@ -254,123 +147,27 @@ impl Flat {
         Ok(answer)
     }
 
-    /// A turn of a process that was taken out of its slot, and is put back.
-    #[tactic(auto, using(unix_model::proofs::TableLaws::tables))]
-    fn turn_process<K: Sink>(
-        &mut self,
-        alloc: Global,
-        slot: u8,
-        process: Process,
-        output: &mut K,
-    ) -> Result<Turned, FlatFault>
+    /// Whether a turn of a slot below 64 has nothing to do: exactly where the slot has no process, or one that has ended.
+    pub fn is_free(&self, slot: u8) -> bool
         requires { slot < 64 }
-        ensures turn { IfOk result (λ answer. Steps (λ bytes. turned_in served_calls (with_process (unix_of self.old) slot (process_of process)) slot (process_of process) bytes (process_of process).phase) K.grew (unix_of self.new) answer output.old output.new) }
-        ensures unchanged { result ≡ Err FlatFault.WriteFault → unix_of self.new ≡ with_process (unix_of self.old) slot (process_of process) }
-        ensures part { OnErr result ((bytes : List ℕ) → GrewByPrefix K.grew output.old (turned_in served_calls (with_process (unix_of self.old) slot (process_of process)) slot (process_of process) bytes (process_of process).phase).put output.new) }
-        ensures cause { IfErr result (IsTurnFault ⊥ (Rose (K.faults output.old) (K.faults output.new))) }
-        ensures counted { K.faults output.old ≤ K.faults output.new }
+        ensures nothing { result ≡ has_nothing_to_do (at (unix_of self.now).processes slot) }
+        ensures turn { result ≡ true → (bytes : List ℕ) → turned call_of (unix_of self.now) slot bytes ≡ free_turn (ticked (unix_of self.now)) bytes }
     {
-        match &process.phase {
-            Phase::Run => self.put(slot, process.run()),
-            Phase::Asked => {
-                let phase = match self.enter(alloc, &process) {
-                    Ok(phase) => phase,
-                    Err(_) => return Err(FlatFault::NoMemory),
-                };
-                self.go_on(slot, process, phase);
-            }
-            Phase::Sent(sent) => match sent.call {
-                ServedCall::Exit => {
-                    let word = 256 * (sent.arguments[0] % 256);
-                    self.go_on(slot, process, Phase::Exiting(word));
-                }
-                ServedCall::Write => match self.write(&process, sent, output) {
-                    Ok(phase) => self.go_on(slot, process, phase),
-                    Err(_) => {
-                        self.put(slot, process);
-                        return Err(FlatFault::WriteFault);
-                    }
-                },
-            },
-            Phase::Done(value) => {
-                let value = *value;
-                self.put(slot, process.give_back(value));
-            }
-            Phase::Exiting(word) => {
-                let word = *word;
-                self.exit_step(alloc, slot, process, word);
-            }
-            Phase::Zombie(_) => {
-                self.put(slot, process);
-                return Ok(Turned::Free);
-            }
-        }
-        Ok(Turned::Worked)
-    }
-
-    /// Puts a process into a slot, in another phase.
-    #[tactic(auto, using(unix_model::proofs::TableLaws::tables))]
-    fn go_on(&mut self, slot: u8, mut process: Process, phase: Phase)
-        requires { slot < 64 }
-        ensures { unix_of self.new ≡ with_phase (with_process (unix_of self.old) slot (process_of process)) slot (process_of process) (phase_of phase) }
-    {
-        process.phase = phase;
-        self.put(slot, process);
-    }
-
-    /// The effect of write: the phase of the process after it, where the output took the bytes.
-    fn write<K: Sink>(
-        &self,
-        process: &Process,
-        sent: &SentCall,
-        output: &mut K,
-    ) -> Result<Phase, Failed>
-        ensures steps { IfOk result (λ phase. (slot : ℕ) → Steps (write_turn (unix_of self.now) slot (process_of process.now) (sent_call_of sent.now)) K.grew (with_phase (with_process (unix_of self.now) slot (process_of process.now)) slot (process_of process.now) (phase_of phase)) Worked output.old output.new) }
-        ensures part { OnErr result ((slot : ℕ) (bytes : List ℕ) → GrewByPrefix K.grew output.old (write_turn (unix_of self.now) slot (process_of process.now) (sent_call_of sent.now) bytes).put output.new) }
-        ensures counted { K.faults output.old ≤ K.faults output.new }
-        ensures failed { OnErr result (Rose (K.faults output.old) (K.faults output.new)) }
-    {
-        match self.opened(process, sent.arguments[0]) {
-            Some(_) => {}
-            None => return Ok(refused(Errno::Ebadf)),
-        }
-        let count = sent.bytes.len();
-        if count == 0 {
-            return Ok(Phase::Done(0));
-        }
-        match output.put(&sent.bytes) {
-            Ok(()) => Ok(Phase::Done(count as u32)),
-            Err(failed) => Err(failed),
+        match self.state.slots.pace(slot) {
+            Pace::Free => true,
+            Pace::Running => false,
+            Pace::Other => false,
         }
     }
 
-    /// Whether the machine is idle: no turn of a slot works, since each is free or a zombie. No call that is served waits.
-    #[tactic(auto, using(unix_model::proofs::TableLaws::steps), unfolding(unix_model::specs::Schedule::is_idle))]
-    pub fn is_idle(&self) -> bool
-        ensures { result ≡ is_idle served_calls (unix_of self.now) }
+    /// Makes so many turns at once of a slot below 64 where nothing is there to do. They change the position alone.
+    pub fn free_turns(&mut self, slot: u8, number: u32)
+        requires slot { slot < 64 }
+        requires free { has_nothing_to_do (at (unix_of self.old).processes slot) ≡ true }
+        ensures turns { unix_of self.new ≡ after_turns slot number (unix_of self.old) }
+        ensures ticks { unix_of self.new ≡ ticked_times number (unix_of self.old) }
     {
-        let mut found = false;
-        for slot in 0..64u8 {
-            found = found || self.works(slot);
-        }
-        !found
+        let round = 64 * self.state.quantum;
+        self.state.position = (self.state.position + number % round) % round;
     }
-
-    /// Whether a turn of a slot works: a process is there that hasn't ended.
-    fn works(&self, slot: u8) -> bool
-        requires { slot < 64 }
-        ensures { result ≡ is_work (turned_at served_calls (unix_of self.now) slot [] (at (unix_of self.now).processes slot)).answer }
-    {
-        match self.slots.get(slot) {
-            Some(process) => process.word().is_none(),
-            None => false,
-        }
-    }
-}
-
-/// A call that is refused.
-fn refused(errno: Errno) -> Phase
-    ensures { phase_of result ≡ answered (refusal_word errno) }
-{
-    Phase::Done(errno.number().wrapping_neg())
 }

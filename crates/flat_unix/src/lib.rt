@@ -1,37 +1,15 @@
-//! A plain Unix machine over std's ordered maps: the flat Unix machine of the definitions, run as it is written there.
+//! The plain Unix machine: the flat machine of the definitions with all its calls, run as it is written there. The state,
+//! the keeper and the servers are crates of their own; here are boot, turns and what can be seen of a machine.
 #![tactic(auto)]
 
 mod boot;
 mod calls;
-mod contents;
-mod decode;
-mod description;
-mod directory;
-mod entry;
-mod execute;
-mod files;
+mod families;
 mod flat;
-mod image;
-mod inode;
-mod memory;
-mod opened;
-mod page;
-mod places;
-mod process;
-mod sent_call;
-mod slots;
+mod steps;
+mod texts;
+mod transfers;
+mod turning;
+mod waiting;
 
-pub use calls::ServedCall;
-pub use contents::Contents;
-pub use description::Description;
-pub use directory::Directory;
-pub use entry::Entry;
-pub use files::Files;
 pub use flat::{Flat, FlatFault};
-pub use inode::Inode;
-pub use memory::Memory;
-pub use opened::Opened;
-pub use page::Page;
-pub use process::{Phase, Process};
-pub use sent_call::SentCall;
-pub use slots::Slots;

@@ -1,21 +1,21 @@
 -- A boot, step by step.
-use Rattle.std.proofs.Common.{◌≡◌, ℕ, List, Option, Some, Ok, Err, Result, Bool, true, false, refl, sym, ap, subst, ◌∙◌}
+use Rattle.std.proofs.Common.{◌≡◌, ℕ, List, [], ◌∷◌, Option, Some, Ok, Err, Result, Bool, true, false, refl, sym, ap, subst, ◌∙◌}
 use Rattle.std.proofs.lemmas.Bool.{lt-ltb}
-use Rattle.std.specs.Prelude.{codes, length, not, ◌<◌}
+use Rattle.std.specs.Prelude.{length, not, ◌<◌}
+use Rattle.flat_boot.specs.NewPaths.{ends_new, is_new_path}
 use Rattle.flat_unix.specs.Boots.{Starts, IsStoreFault}
-use Rattle.flat_unix.specs.RootFiles.{root_spot, stored}
 use Rattle.flat_unix.specs.declared.flat.FlatFault.{FlatFault}
 use Rattle.flat_unix.specs.declared.flat.FlatFault.TheVariants.{ReadFault, WriteFault, NoMemory, NoRoom, Elf}
 use Rattle.unix_model.specs.declared.calls.Errno.{Errno}
 use Rattle.unix_model.specs.Boot as model
 use Rattle.unix_model.specs.Boot.{stop◌where_not◌}
 use Rattle.unix_model.specs.Limits.{most_file_bytes}
-use Rattle.unix_model.specs.Paths.{Spot, file_at, inode_at, is_dots, walked, walked_in}
-use Rattle.unix_model.specs.Refusals.{◌>>◌}
-use Rattle.unix_model.specs.State.{Unix}
+use Rattle.unix_model.specs.Paths.{file_at, inode_at, is_dots, walked, walked_in}
 use Rattle.unix_model.specs.Tables.{at, with_at}
+use Rattle.unix_model.specs.Refusals.{◌>>◌, ◌>>=◌}
+use Rattle.unix_model.specs.State.{Unix}
 use Rattle.unix_model.specs.Words.{default_pages, default_quantum}
-use Rattle.unix_model.proofs.BootLaws.{booted-long, booted-refused, booted-entry, init-found, init-walked, init_spot}
+use Rattle.unix_model.proofs.BootLaws.{booted-long, init-found, init-walked, init_spot}
 use Rattle.kn_io.specs.Sink.{GrewByPrefix}
 use Rattle.keynix.specs.declared.ending.Ending.{Ending}
 use Rattle.keynix.specs.declared.ending.Ending.TheVariants as ending
@@ -41,56 +41,47 @@ unfolding most_file_bytes
 too_long bytes elf long =
     elf-booted bytes elf ∙ ap told_boot (booted-long default_pages default_quantum bytes (lt-ltb 4194304 (length bytes) long))
 
--- the walk of `/init` comes to its name in the root
-walked-root : walked empty.files model.init_path ≡ Ok (root_spot (codes "init"))
+-- the machine with the file stored, or why it isn't
+abbrev stored : List ℕ → Result Unix model.BootRefusal
+stored file = model.with_boot_entries 0 empty (model.init_entry file ∷ [])
+
+-- nothing stands at `/init` before
+ends-new : ends_new (walked empty.files model.init_path) ≡ true
 unfolding walked walked_in model.empty_machine model.first_inodes at with_at is_dots inode_at
-walked-root = refl
+ends-new = refl
 
-init-spot : init_spot ≡ root_spot (codes "init")
-init-spot = let both : ◌≡◌ {A = Result Spot Errno} (Ok init_spot) (Ok (root_spot (codes "init"))) = sym (init-walked default_pages default_quantum) ∙ walked-root in cc
+pub init-new : (unix : Unix) → unix ≡ empty → is_new_path unix.files model.init_path ≡ true
+unfolding is_new_path
+init-new unix is = ap (λ (unix : Unix). ends_new (walked unix.files model.init_path)) is ∙ ends-new
 
--- the file was stored
-stored-parts : (file : List ℕ) (after : Unix) → stored empty (codes "init") file ≡ Ok after
-    → (model.is_too_long (model.NewFile file) ≡ false) × (model.with_entry_at empty init_spot (model.NewFile file) ≡ Ok after)
-unfolding stored
-stored-parts file after e = by (model.is_too_long (model.NewFile file)) refl (model.with_entry_at empty (root_spot (codes "init")) (model.NewFile file)) refl e
-  where
-    by : (long : Bool) → model.is_too_long (model.NewFile file) ≡ long → (found : Result Unix Errno) → model.with_entry_at empty (root_spot (codes "init")) (model.NewFile file) ≡ found
-        → ((stop (model.NoRoomFor 0) where_not not long) >> model.or_no_room 0 found) ≡ Ok after
-        → (model.is_too_long (model.NewFile file) ≡ false) × (model.with_entry_at empty init_spot (model.NewFile file) ≡ Ok after)
-    by true long_is found found_is e = cc
-    by false long_is (Err errno) found_is e = cc
-    by false long_is (Ok unix) found_is e =
-        let same : unix ≡ after = cc in
-        (long_is, ap (λ spot. model.with_entry_at empty spot (model.NewFile file)) init-spot ∙ found_is ∙ ap (λ (unix : Unix). Ok unix) same)
+-- the file was stored by the one entry
+entry-made : (file : List ℕ) → model.with_boot_entry empty (model.init_entry file) ≡ model.with_entry_at empty init_spot (model.NewFile file)
+unfolding model.with_boot_entry
+entry-made file = rw (init-walked default_pages default_quantum) refl
+
+by_entry : (found : Result Unix Errno) (long : Bool) (after : Unix) → ((stop (model.NoRoomFor 0) where_not not long) >> (model.or_no_room 0 found >>= (λ next. Ok next))) ≡ Ok after → found ≡ Ok after
+by_entry found true after e = cc
+by_entry (Err errno) false after e = cc
+by_entry (Ok unix) false after e = let same : unix ≡ after = cc in ap (λ (unix : Unix). Ok unix) same
 
 -- and is there
-pub boot-named : (file : List ℕ) (after : Unix) → stored empty (codes "init") file ≡ Ok after → file_at after.files model.init_path ≡ Some file
-boot-named file after e = init-found default_pages default_quantum file after (stored-parts file after e).1
+pub boot-named : (file : List ℕ) (after : Unix) → stored file ≡ Ok after → file_at after.files model.init_path ≡ Some file
+unfolding model.with_boot_entries
+boot-named file after e =
+    init-found default_pages default_quantum file after
+    (sym (entry-made file) ∙ by_entry (model.with_boot_entry empty (model.init_entry file)) (model.is_too_long (model.NewFile file)) after e)
 
-pub boot-stored : (file : List ℕ) (after : Unix) → model.is_elf file ≡ true → stored empty (codes "init") file ≡ Ok after → boot_of file ≡ told_boot (model.with_init after)
-boot-stored file after elf e =
-    let parts = stored-parts file after e in
-    elf-booted file elf ∙ ap told_boot (booted-entry default_pages default_quantum file after parts.0 parts.1)
+pub boot-stored : (file : List ℕ) (after : Unix) → model.is_elf file ≡ true → stored file ≡ Ok after → boot_of file ≡ told_boot (model.with_init after)
+unfolding model.booted_file model.booted
+boot-stored file after elf e = elf-booted file elf ∙ rw e refl
 
 -- there was no room for it
-stored-refused : (file : List ℕ) (refusal : model.BootRefusal) → stored empty (codes "init") file ≡ Err refusal → model.booted_file default_pages default_quantum file ≡ Err (model.NoRoomFor 0)
-unfolding stored
-stored-refused file refusal e = by (model.is_too_long (model.NewFile file)) refl (model.with_entry_at empty (root_spot (codes "init")) (model.NewFile file)) refl e
-  where
-    by : (long : Bool) → model.is_too_long (model.NewFile file) ≡ long → (found : Result Unix Errno) → model.with_entry_at empty (root_spot (codes "init")) (model.NewFile file) ≡ found
-        → ((stop (model.NoRoomFor 0) where_not not long) >> model.or_no_room 0 found) ≡ Err refusal
-        → model.booted_file default_pages default_quantum file ≡ Err (model.NoRoomFor 0)
-    by true long_is found found_is e = booted-long default_pages default_quantum file long_is
-    by false long_is (Ok unix) found_is e = cc
-    by false long_is (Err errno) found_is e =
-        booted-refused default_pages default_quantum file errno long_is (ap (λ spot. model.with_entry_at empty spot (model.NewFile file)) init-spot ∙ found_is)
-
-pub boot-no_room : (file : List ℕ) → model.is_elf file ≡ true → stored empty (codes "init") file ≡ Err (model.NoRoomFor 0) → boot_of file ≡ Err refusal.NoRoom
-boot-no_room file elf e = elf-booted file elf ∙ ap told_boot (stored-refused file (model.NoRoomFor 0) e)
+pub boot-no_room : (file : List ℕ) → model.is_elf file ≡ true → stored file ≡ Err (model.NoRoomFor 0) → boot_of file ≡ Err refusal.NoRoom
+unfolding model.booted_file model.booted
+boot-no_room file elf e = elf-booted file elf ∙ rw e refl
 
 -- why it wasn't stored
-pub store-fails : (file : List ℕ) → model.is_elf file ≡ true → (failed : FlatFault) → IsStoreFault failed → (failed ≡ NoRoom → stored empty (codes "init") file ≡ Err (model.NoRoomFor 0))
+pub store-fails : (file : List ℕ) → model.is_elf file ≡ true → (failed : FlatFault) → IsStoreFault failed → (failed ≡ NoRoom → stored file ≡ Err (model.NoRoomFor 0))
     → Boots (boot_of file) (Err (fault_ending failed))
 store-fails file elf NoRoom cause full = boot-no_room file elf (full refl)
 store-fails file elf NoMemory cause full = tt

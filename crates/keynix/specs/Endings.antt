@@ -11,7 +11,7 @@ use Rattle.unix_model.specs.Machine as machine
 use Rattle.unix_model.specs.Schedule.{Schedule, Round, unix_run}
 use Rattle.unix_model.specs.State.{Unix}
 use Rattle.unix_model.specs.Words.{default_pages, default_quantum}
-use Rattle.flat_unix.specs.ServedCalls.{served_calls}
+use Rattle.unix_model.specs.Calls.{call_of}
 use Rattle.rv_asm.specs.Files.{IsFile}
 use Rattle.rv_asm.specs.Programs as asm
 use Rattle.keynix.specs.declared.ending.Ending.{Ending}
@@ -38,7 +38,7 @@ boot_of bytes =
 
 -- the run of a machine in the round, over no console input
 abbrev pub run_of : ℕ → Unix → machine.RunResult Unix Schedule
-run_of turns unix = unix_run served_calls turns unix (Round None) []
+run_of turns unix = unix_run call_of turns unix (Round None) []
 
 -- the ending of a turn that failed
 abbrev pub fault_ending : FlatFault → Ending

@@ -5,7 +5,7 @@ ghost use Rattle.kn_io.specs.Faults.{Rose};
 ghost use Rattle.unix_model.specs.Boot.{is_elf};
 ghost use Rattle.unix_model.specs.Schedule.{Round, ends_idle, mark_at};
 ghost use Rattle.flat_unix.specs.FlatView.{unix_of};
-ghost use Rattle.flat_unix.specs.ServedCalls.{served_calls};
+ghost use Rattle.unix_model.specs.Calls.{call_of};
 ghost use Rattle.keynix.specs.Endings.{Boots, Ends, IsCaused, Reads, RunsOn, boot_of, fault_ending};
 
 use crate::ending::{Ending, Refusal};
@@ -24,7 +24,8 @@ const DEFAULT_PAGES: u32 = 2_048;
 
 const DEFAULT_QUANTUM: u32 = 100;
 
-/// Boots the input, an ELF file, in memory, and runs it for at most so many turns.
+/// Boots the input, an ELF file, in memory, and runs it for at most so many turns. Nothing is left of the input then, so
+/// who reads the console finds its end.
 pub fn once<S: Source, K: Sink>(alloc: Global, turns: u64, input: &mut S, output: &mut K) -> Ending
     ensures ends { (bytes : List ℕ) → S.left input.old ≡ Some bytes → Ends turns (boot_of bytes) S.left K.grew input.new output.old output.new result }
     ensures caused { IsCaused (Rose (S.faults input.old) (S.faults input.new)) (Rose (K.faults output.old) (K.faults output.new)) result }
@@ -139,7 +140,7 @@ fn run<S: Source, K: Sink>(
 
 /// Where a round begins, whether the machine is idle, and else the mark of the round so far.
 fn mark_at(flat: &Flat, mark: Option<bool>) -> Option<bool>
-    ensures { result ≡ mark_at served_calls (unix_of flat.now) mark }
+    ensures { result ≡ mark_at call_of (unix_of flat.now) mark }
 {
     if flat.position() == 0 {
         Some(flat.is_idle())

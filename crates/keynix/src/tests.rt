@@ -333,6 +333,60 @@ fn a_read_fault_in_a_source_has_its_status(rt: HostRuntime) -> Result<(), Fail> 
 }
 
 #[test]
+fn the_console_is_at_its_end(rt: HostRuntime) -> Result<(), Fail> {
+    // Five more than what a read of a byte gives. The file has 212 bytes, so the source's call of number 213, from 0, is
+    // that of the read.
+    let file = file_of(
+        rt.alloc(),
+        &[
+            addi(A0, 0, 0),
+            lui(A1, 0x7FFF0),
+            addi(A2, 0, 1),
+            addi(A7, 0, 11),
+            ECALL,
+            addi(A0, A0, 5),
+            addi(A7, 0, 1),
+            ECALL,
+        ],
+    )?;
+    for (call, status, note) in [
+        (212, 3, "read fault\n"),
+        (213, 3, "read fault\n"),
+        (214, 0, "halted 5\n"),
+    ] {
+        let left = run_failing(rt.alloc(), &["d", "once"], &file, [&[call], &[], &[]])?;
+        assert_eq!(rt; (left.status, left.output.len()), (status, 0));
+        assert_eq!(rt; left.notes.as_slice(), note.as_bytes());
+    }
+    Ok(())
+}
+
+#[test]
+fn a_child_is_forked_and_waited_for(rt: HostRuntime) -> Result<(), Fail> {
+    // fork; the child exits with 3 more than 0, and the parent with the pid that it waited for.
+    let file = file_of(
+        rt.alloc(),
+        &[
+            addi(A7, 0, 2),
+            ECALL,
+            // beqz a0, 20: to the child's part.
+            0x0005_0A63,
+            addi(A0, 0, 0),
+            addi(A7, 0, 4),
+            ECALL,
+            // j 8: over the child's part.
+            0x0080_006F,
+            addi(A0, A0, 3),
+            addi(A7, 0, 1),
+            ECALL,
+        ],
+    )?;
+    let output = check_once(&rt, &file, 0, "halted 2\n")?;
+    assert_eq!(rt; output.len(), 0);
+    Ok(())
+}
+
+#[test]
 fn turns_are_counted_by_the_option(rt: HostRuntime) -> Result<(), Fail> {
     for (option, status, note) in [
         ("--turns=0", 9, "turns spent 0\n"),

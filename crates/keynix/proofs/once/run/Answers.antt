@@ -3,7 +3,7 @@ use Rattle.kn_io.specs.Sink.{GrewByPrefix}
 use Rattle.unix_model.specs.Schedule.{Round, next_slot}
 use Rattle.unix_model.specs.Turn.{turned}
 use Rattle.flat_unix.specs.FlatView.{unix_of}
-use Rattle.flat_unix.specs.ServedCalls.{served_calls}
+use Rattle.unix_model.specs.Calls.{call_of}
 use Rattle.keynix.specs.Endings.{RunsOn}
 use Rattle.keynix.proofs.SoFar.{SoFar, rest_of, so_far-start, so_far-turned, so_far-on, so_far-idles, so_far-halts, so_far-spent, so_far-part, fault-ends}
 use Rattle.keynix.proofs.once.run.Goals as goal
@@ -30,8 +30,8 @@ returns-in-Err-clause-runs g c = λ told.
     let one_more : c.args.turns - c.loop-made.made ≡ suc left = omega arith in
     let before : SoFar c.args.turns (unix_of c.args.flat.now) (rest_of (suc left) (unix_of c.loop-made.flat) c.loop-made.mark) c.loop-made.made g.S.Source.left g.K.Sink.grew c.loop-made.input c.args.output.now c.loop-made.output =
     subst (λ rest. SoFar c.args.turns (unix_of c.args.flat.now) (rest_of rest (unix_of c.loop-made.flat) c.loop-made.mark) c.loop-made.made g.S.Source.left g.K.Sink.grew c.loop-made.input c.args.output.now c.loop-made.output) one_more (c.loop-made.invariant.so_far told) in
-    let part : GrewByPrefix g.K.Sink.grew c.loop-made.output (turned served_calls (unix_of c.loop-made.flat) (next_slot (unix_of c.loop-made.flat) (Round c.loop-made.mark)) []).put c.turn.new.output =
-    subst (λ slot. GrewByPrefix g.K.Sink.grew c.loop-made.output (turned served_calls (unix_of c.loop-made.flat) slot []).put c.turn.new.output) (c.round_slot-slot.ensures.slot c.loop-made.mark) (c.in-Err.ensures.part [] before.input_ended) in
+    let part : GrewByPrefix g.K.Sink.grew c.loop-made.output (turned call_of (unix_of c.loop-made.flat) (next_slot (unix_of c.loop-made.flat) (Round c.loop-made.mark)) []).put c.turn.new.output =
+    subst (λ slot. GrewByPrefix g.K.Sink.grew c.loop-made.output (turned call_of (unix_of c.loop-made.flat) slot []).put c.turn.new.output) (c.round_slot-slot.ensures.slot c.loop-made.mark) (c.in-Err.ensures.part [] before.input_ended) in
     subst (λ ending. RunsOn c.args.turns (unix_of c.args.flat.now) g.S.Source.left g.K.Sink.grew c.turn.new.input c.args.output.now c.turn.new.output ending) (sym c.fault.ensures)
     (fault-ends c.args.turns (unix_of c.args.flat.now) g.S.Source.left g.K.Sink.grew c.args.output.now c.turn.new.input c.turn.new.output _ _ c.in-Err.failed c.in-Err.ensures.cause
     (so_far-part c.args.turns (unix_of c.args.flat.now) g.S.Source.left g.K.Sink.grew c.args.output.now (unix_of c.loop-made.flat) c.loop-made.mark left c.loop-made.made c.loop-made.input c.loop-made.output c.turn.new.output
@@ -41,14 +41,14 @@ pub returns-in-Some-halted-clause-runs : goal.returns-in-Some-halted-clause-runs
 returns-in-Some-halted-clause-runs g c = λ told.
     (so_far-idles c.args.turns (unix_of c.args.flat.now) g.S.Source.left g.K.Sink.grew c.args.output.now (unix_of c.turn.new.self) c.loop-made.mark (Some c.in-Some-halted.word.0) (c.args.turns - (c.loop-made.made + 1)) (c.loop-made.made + 1) c.turn.new.input c.turn.new.output
     (so_far-turned c.args.turns (unix_of c.args.flat.now) g.S.Source.left g.K.Sink.grew c.args.output.now (unix_of c.loop-made.flat) (unix_of c.turn.new.self) c.loop-made.mark c.round_slot-slot.result (c.args.turns - c.loop-made.made) (c.args.turns - (c.loop-made.made + 1)) c.loop-made.made c.in-Ok.field-0 c.loop-made.input c.turn.new.input c.loop-made.output c.turn.new.output
-    g.met.K.Sink.grew_joined (c.loop-made.invariant.so_far told) (omega arith) (c.round_slot-slot.ensures.slot c.loop-made.mark) (sym c.in-None.ensures) c.in-Ok.ensures.turn c.in-Ok.ensures.input_stays)
+    g.met.K.Sink.grew_joined (c.loop-made.invariant.so_far told) (omega arith) (c.round_slot-slot.ensures.slot c.loop-made.mark) (sym c.in-None.ensures) c.in-Ok.ensures.turn)
     (sym c.ends_idle.ensures ∙ c.if-ends_idle.true) (sym c.in-Some-halted.ensures)).0
 
 pub returns-in-None-halted-clause-runs : goal.returns-in-None-halted-clause-runs
 returns-in-None-halted-clause-runs g c = λ told.
     so_far-idles c.args.turns (unix_of c.args.flat.now) g.S.Source.left g.K.Sink.grew c.args.output.now (unix_of c.turn.new.self) c.loop-made.mark None (c.args.turns - (c.loop-made.made + 1)) (c.loop-made.made + 1) c.turn.new.input c.turn.new.output
     (so_far-turned c.args.turns (unix_of c.args.flat.now) g.S.Source.left g.K.Sink.grew c.args.output.now (unix_of c.loop-made.flat) (unix_of c.turn.new.self) c.loop-made.mark c.round_slot-slot.result (c.args.turns - c.loop-made.made) (c.args.turns - (c.loop-made.made + 1)) c.loop-made.made c.in-Ok.field-0 c.loop-made.input c.turn.new.input c.loop-made.output c.turn.new.output
-    g.met.K.Sink.grew_joined (c.loop-made.invariant.so_far told) (omega arith) (c.round_slot-slot.ensures.slot c.loop-made.mark) (sym c.in-None.ensures) c.in-Ok.ensures.turn c.in-Ok.ensures.input_stays)
+    g.met.K.Sink.grew_joined (c.loop-made.invariant.so_far told) (omega arith) (c.round_slot-slot.ensures.slot c.loop-made.mark) (sym c.in-None.ensures) c.in-Ok.ensures.turn)
     (sym c.ends_idle.ensures ∙ c.if-ends_idle.true) (sym c.in-None-halted.ensures)
 
 pub loop-made-preserved : goal.loop-made-preserved
@@ -57,7 +57,7 @@ loop-made-preserved g c = record {
       subst (λ mark. SoFar c.args.turns (unix_of c.args.flat.now) (rest_of (c.args.turns - (c.loop-made.made + 1)) (unix_of c.turn.new.self) mark) (c.loop-made.made + 1) g.S.Source.left g.K.Sink.grew c.turn.new.input c.args.output.now c.turn.new.output) (sym c.mark_at-mark-in-loop-made.ensures)
       (so_far-on c.args.turns (unix_of c.args.flat.now) g.S.Source.left g.K.Sink.grew c.args.output.now (unix_of c.turn.new.self) c.loop-made.mark (c.args.turns - (c.loop-made.made + 1)) (c.loop-made.made + 1) c.turn.new.input c.turn.new.output
       (so_far-turned c.args.turns (unix_of c.args.flat.now) g.S.Source.left g.K.Sink.grew c.args.output.now (unix_of c.loop-made.flat) (unix_of c.turn.new.self) c.loop-made.mark c.round_slot-slot.result (c.args.turns - c.loop-made.made) (c.args.turns - (c.loop-made.made + 1)) c.loop-made.made c.in-Ok.field-0 c.loop-made.input c.turn.new.input c.loop-made.output c.turn.new.output
-      g.met.K.Sink.grew_joined (c.loop-made.invariant.so_far told) (omega arith) (c.round_slot-slot.ensures.slot c.loop-made.mark) (sym c.in-None.ensures) c.in-Ok.ensures.turn c.in-Ok.ensures.input_stays)
+      g.met.K.Sink.grew_joined (c.loop-made.invariant.so_far told) (omega arith) (c.round_slot-slot.ensures.slot c.loop-made.mark) (sym c.in-None.ensures) c.in-Ok.ensures.turn)
       (sym c.ends_idle.ensures ∙ c.if-ends_idle.false));
   input_counted = omega (arith, c.loop-made.invariant.input_counted, c.turn.ensures.input_counted);
   output_counted = omega (arith, c.loop-made.invariant.output_counted, c.turn.ensures.output_counted);

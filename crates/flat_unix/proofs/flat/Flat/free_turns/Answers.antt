@@ -1,0 +1,12 @@
+use Rattle.std.proofs.Common.{sym, ◌∙◌}
+use Rattle.flat_unix.specs.FlatView.{unix_of}
+use Rattle.flat_unix.proofs.FreeTurns.{after-nothing, ticked-rounds}
+use Rattle.flat_unix.proofs.flat.Flat.free_turns.Goals as goal
+
+pub returns-clause-turns : goal.returns-clause-turns
+returns-clause-turns c =
+    sym (ticked-rounds c.args.number (unix_of c.args.self.now) c.args.self.now.state.in_round)
+    ∙ sym (after-nothing c.args.number c.args.slot (unix_of c.args.self.now) c.requires.free)
+
+pub returns-clause-ticks : goal.returns-clause-ticks
+returns-clause-ticks c = sym (ticked-rounds c.args.number (unix_of c.args.self.now) c.args.self.now.state.in_round)
