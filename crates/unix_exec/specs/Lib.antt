@@ -1,1 +1,5 @@
+-- in reading order
 pub mod Plans
+pub mod Start
+pub mod Addresses
+pub mod Seals

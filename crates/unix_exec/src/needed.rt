@@ -8,8 +8,8 @@ ghost use Rattle.unix_exec.specs.Plans.{IsLow};
 
 use elf_read::{ElfPlan, Load};
 
-// Whether a load has bytes in a page.
-fn touches(load: &Load, page: u32) -> bool
+/// Whether a load has bytes in a page.
+pub fn touches(load: &Load, page: u32) -> bool
     requires load { IsLow load.now }
     requires page { page < 2 ^ 19 }
     ensures { result ≡ touches page load.now }
@@ -17,8 +17,8 @@ fn touches(load: &Load, page: u32) -> bool
     load.at < 4096 * page + 4096 && 4096 * page < load.at + load.memory_bytes
 }
 
-// Whether a page is one of the 16 of the stack.
-fn in_stack(page: u32) -> bool
+/// Whether a page is one of the 16 of the stack.
+pub fn in_stack(page: u32) -> bool
     ensures { result ≡ in_stack page }
 {
     0x7_FFF0 <= page && page < 0x8_0000

@@ -1,0 +1,69 @@
+//! Bytes are put into a range that lies in at most two pages.
+
+ghost use Rattle.std.specs.Prelude.{◌≡◌, ℕ, ◌+◌, ◌-◌, ◌*◌, ◌/◌, ◌%◌, ◌<◌, ◌≤◌, ◌^◌, Some, true, List, [], length};
+ghost use Rattle.kn_base.specs.Memory.{Memory, zero_page};
+ghost use Rattle.kernel_tables.specs.Kernel.{Kernel, kernel_of, Sized, IsSized};
+ghost use Rattle.space_bank.specs.Bank.{BankGood};
+ghost use Rattle.space_bank.specs.Shares.{Outside};
+ghost use Rattle.unix_model.specs.Memory.{all_writable};
+ghost use Rattle.forest.specs.Walks.{map_of, Mapping};
+ghost use Rattle.forest.specs.Calls.{IsOwn};
+ghost use Rattle.forest.specs.Forest.{IsSpace};
+ghost use Rattle.kernel_forest.specs.Trees.{forest_of, TreesGood};
+ghost use Rattle.user_copy.specs.SpaceMemory.{space_memory};
+ghost use Rattle.seg_tree.specs.Blocks.{ChangesAtMost};
+ghost use Rattle.user_copy.specs.Writing.{PutsPiece, PutsBytes, NotOwn, pages_touched};
+
+use kn_base::Store;
+use seg_tree::{Space, writable};
+use space_bank::write_page;
+use user_copy::page_owner;
+
+// Puts bytes that lie in one page.
+fn put_piece<T: Store>(store: &mut T, space: Space, at: u32, from: &[u8])
+    requires good { BankGood (kernel_of (T.memory store.old)) }
+    requires trees { (outside : Outside) × TreesGood (kernel_of (T.memory store.old)) outside [] }
+    requires space { IsSpace (forest_of (kernel_of (T.memory store.old))) [] space.0.0 }
+    requires zero { (kernel_of (T.memory store.old)).page_zero ≡ zero_page }
+    requires some { 1 ≤ length from.now }
+    requires within { at % 4096 + length from.now ≤ 4096 }
+    requires can_write { all_writable (space_memory (kernel_of (T.memory store.old)) space.0.0) at (length from.now) ≡ true }
+    requires room { let old = kernel_of (T.memory store.old) in old.machine.nodes_taken + 19 ≤ old.nodes }
+    requires page_room { let old = kernel_of (T.memory store.old) in (found : Mapping) → map_of (forest_of old).keys space.0.0 (at / 4096) ≡ Some found → (IsOwn (forest_of old) space.0.0 (at / 4096) found → ⊥) → old.machine.pages_taken < old.size }
+    ensures put { PutsPiece (kernel_of (T.memory store.old)) (kernel_of (T.memory store.new)) space.0.0 at from.now }
+    ensures good { BankGood (kernel_of (T.memory store.new)) }
+    ensures blocks { ChangesAtMost (T.blocks store.old) (T.blocks store.new) 90 }
+    ensures keeps { T.keeps store.old store.new }
+{
+    let owner = page_owner(store, space);
+    match writable(store, space, at / 4096, owner) {
+        Some(page) => write_page(store, page, (at % 4096) as u16, from),
+        None => {}
+    }
+}
+
+/// Puts bytes that lie in at most two pages into a space, where all of the range may be written. It takes at most eight nodes, and
+/// as many pages as there are pages of the range that aren't own when they are come to in order.
+pub fn put_range<T: Store>(store: &mut T, space: Space, at: u32, from: &[u8])
+    requires good { BankGood (kernel_of (T.memory store.old)) }
+    requires trees { (outside : Outside) × TreesGood (kernel_of (T.memory store.old)) outside [] }
+    requires space { IsSpace (forest_of (kernel_of (T.memory store.old))) [] space.0.0 }
+    requires zero { (kernel_of (T.memory store.old)).page_zero ≡ zero_page }
+    requires some { 1 ≤ length from.now }
+    requires within { at % 4096 + length from.now ≤ 8192 }
+    requires can_write { all_writable (space_memory (kernel_of (T.memory store.old)) space.0.0) at (length from.now) ≡ true }
+    requires room { let old = kernel_of (T.memory store.old) in old.machine.nodes_taken + 23 ≤ old.nodes }
+    requires page_room { let old = kernel_of (T.memory store.old) in (taken : ℕ) → NotOwn (forest_of old) space.0.0 (at / 4096) (pages_touched at (length from.now)) taken → old.machine.pages_taken + taken ≤ old.size }
+    ensures put { PutsBytes (kernel_of (T.memory store.old)) (kernel_of (T.memory store.new)) space.0.0 at from.now }
+    ensures good { BankGood (kernel_of (T.memory store.new)) }
+    ensures blocks { ChangesAtMost (T.blocks store.old) (T.blocks store.new) 180 }
+    ensures keeps { T.keeps store.old store.new }
+{
+    let in_first = 4096 - at % 4096;
+    if from.len() <= in_first as usize {
+        put_piece(store, space, at, from);
+    } else {
+        put_piece(store, space, at, &from[..in_first as usize]);
+        put_piece(store, space, at + in_first, &from[in_first as usize..]);
+    }
+}

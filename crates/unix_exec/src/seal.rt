@@ -1,0 +1,76 @@
+//! The pages of a program that no load makes writable become read-only.
+
+ghost use Rattle.std.specs.Prelude.{◌≡◌, ℕ, ◌+◌, ◌<◌, ◌≤◌, ◌^◌, [], All};
+ghost use Rattle.kn_base.specs.Memory.{Memory};
+ghost use Rattle.kernel_tables.specs.Kernel.{Kernel, kernel_of};
+ghost use Rattle.space_bank.specs.Bank.{BankGood};
+ghost use Rattle.space_bank.specs.Shares.{Outside};
+ghost use Rattle.unix_model.specs.Loading.{page_writable};
+ghost use Rattle.forest.specs.Walks.{map_of};
+ghost use Rattle.forest.specs.Forest.{IsSpace};
+ghost use Rattle.kernel_forest.specs.Trees.{forest_of, TreesGood};
+ghost use Rattle.unix_exec.specs.Plans.{IsLow};
+ghost use Rattle.unix_exec.specs.Seals.{page_sealed, AreNeededMapped, HasSealNodes, SealsPlan};
+
+use super::needed::{in_stack, is_needed, touches};
+use elf_read::{ElfPlan, Load};
+use kn_base::Store;
+use seg_tree::{Space, protect};
+
+// Whether a page is writable: it is in the stack, or a writable load has bytes in it.
+#[tactic(auto, using(crate::proofs::Loads::any_load))]
+fn is_writable(loads: &[Load], page: u32) -> bool
+    requires loads { All IsLow loads.now }
+    requires page { page < 2 ^ 19 }
+    ensures { result ≡ page_writable loads.now page }
+{
+    let mut writable = in_stack(page);
+    for load in loads {
+        writable = writable || (load.writable && touches(load, page));
+    }
+    writable
+}
+
+// Whether a page is to be read-only.
+fn is_sealed(loads: &[Load], page: u32) -> bool
+    requires loads { All IsLow loads.now }
+    requires page { page < 2 ^ 19 }
+    ensures { result ≡ page_sealed loads.now page }
+{
+    is_needed(loads, page) && !is_writable(loads, page)
+}
+
+// Makes pages of loads read-only.
+fn seal_loads<T: Store>(store: &mut T, space: Space, loads: &[Load])
+    requires good { BankGood (kernel_of (T.memory store.old)) }
+    requires trees { (outside : Outside) × TreesGood (kernel_of (T.memory store.old)) outside [] }
+    requires space { IsSpace (forest_of (kernel_of (T.memory store.old))) [] space.0.0 }
+    requires loads { All IsLow loads.now }
+    requires mapped { AreNeededMapped (map_of (forest_of (kernel_of (T.memory store.old))).keys space.0.0) loads.now }
+    requires room { HasSealNodes (kernel_of (T.memory store.old)) space.0.0 loads.now }
+    ensures sealed { SealsPlan (kernel_of (T.memory store.old)) (kernel_of (T.memory store.new)) space.0.0 loads.now (2 ^ 19) }
+    ensures good { BankGood (kernel_of (T.memory store.new)) }
+    ensures keeps { T.keeps store.old store.new }
+{
+    for page in 0..0x8_0000u32 {
+        if is_sealed(loads, page) {
+            protect(store, space, page);
+        }
+    }
+}
+
+/// Makes each page of a program read-only that no load makes writable and that isn't of the stack, in a space in which the pages
+/// that it needs are mapped. It takes at most four nodes for each, and no page.
+pub fn seal_plan<T: Store>(store: &mut T, space: Space, plan: &ElfPlan)
+    requires good { BankGood (kernel_of (T.memory store.old)) }
+    requires trees { (outside : Outside) × TreesGood (kernel_of (T.memory store.old)) outside [] }
+    requires space { IsSpace (forest_of (kernel_of (T.memory store.old))) [] space.0.0 }
+    requires loads { All IsLow plan.now.loads.items }
+    requires mapped { AreNeededMapped (map_of (forest_of (kernel_of (T.memory store.old))).keys space.0.0) plan.now.loads.items }
+    requires room { HasSealNodes (kernel_of (T.memory store.old)) space.0.0 plan.now.loads.items }
+    ensures sealed { SealsPlan (kernel_of (T.memory store.old)) (kernel_of (T.memory store.new)) space.0.0 plan.now.loads.items (2 ^ 19) }
+    ensures good { BankGood (kernel_of (T.memory store.new)) }
+    ensures keeps { T.keeps store.old store.new }
+{
+    seal_loads(store, space, plan.loads.as_slice());
+}
