@@ -3,3 +3,6 @@ pub mod Maps
 pub mod TwoPages
 pub mod Strings
 pub mod Sealed
+pub mod Written
+pub mod Images
+pub mod Memories

@@ -3,3 +3,4 @@ pub mod Plans
 pub mod Start
 pub mod Addresses
 pub mod Seals
+pub mod Loaded

@@ -2,6 +2,7 @@
 //! pages that no load makes writable are read-only once its bytes are there.
 #![tactic(auto)]
 
+mod law;
 mod needed;
 mod pages;
 mod ranges;
@@ -9,6 +10,7 @@ mod seal;
 mod stack;
 mod start;
 
+pub use law::loading_is_image;
 pub use needed::needed_pages;
 pub use pages::map_plan;
 pub use seal::seal_plan;

@@ -2,7 +2,7 @@
 
 ghost use Rattle.std.specs.Prelude.{◌≡◌, ℕ, ◌+◌, ◌*◌, ◌<◌, ◌≤◌, ◌^◌, None, []};
 ghost use Rattle.std.specs.List.{All};
-ghost use Rattle.kn_base.specs.Memory.{Memory};
+ghost use Rattle.kn_base.specs.Memory.{Memory, zero_page};
 ghost use Rattle.kernel_tables.specs.Kernel.{Kernel, kernel_of};
 ghost use Rattle.space_bank.specs.Bank.{BankGood};
 ghost use Rattle.space_bank.specs.Shares.{Outside};
@@ -11,7 +11,9 @@ ghost use Rattle.unix_model.specs.Tables.{count_below};
 ghost use Rattle.forest.specs.Walks.{map_of};
 ghost use Rattle.forest.specs.Forest.{IsSpace};
 ghost use Rattle.kernel_forest.specs.Trees.{forest_of, TreesGood};
+ghost use Rattle.user_copy.specs.SpaceMemory.{space_memory};
 ghost use Rattle.unix_exec.specs.Plans.{IsLow, MapsPlan};
+ghost use Rattle.unix_exec.specs.Loaded.{mapped_memory};
 
 use super::needed::is_needed;
 use elf_read::{ElfPlan, Load};
@@ -48,6 +50,7 @@ pub fn map_plan<T: Store>(store: &mut T, space: Space, plan: &ElfPlan)
     requires loads { All IsLow plan.now.loads.items }
     requires room { let old = kernel_of (T.memory store.old) in old.machine.nodes_taken + 15 + 4 * count_below (page_mapped plan.now.loads.items) (2 ^ 19) ≤ old.nodes }
     ensures mapped { MapsPlan (kernel_of (T.memory store.old)) (kernel_of (T.memory store.new)) space.0.0 plan.now.loads.items (2 ^ 19) }
+    ensures memory { (kernel_of (T.memory store.old)).page_zero ≡ zero_page → space_memory (kernel_of (T.memory store.new)) space.0.0 ≡ mapped_memory plan.now.loads.items }
     ensures good { BankGood (kernel_of (T.memory store.new)) }
     ensures keeps { T.keeps store.old store.new }
 {

@@ -9,6 +9,8 @@ ghost use Rattle.unix_model.specs.Loading.{page_writable};
 ghost use Rattle.forest.specs.Walks.{map_of};
 ghost use Rattle.forest.specs.Forest.{IsSpace};
 ghost use Rattle.kernel_forest.specs.Trees.{forest_of, TreesGood};
+ghost use Rattle.user_copy.specs.SpaceMemory.{space_memory};
+ghost use Rattle.unix_exec.specs.Loaded.{sealed_memory};
 ghost use Rattle.unix_exec.specs.Plans.{IsLow};
 ghost use Rattle.unix_exec.specs.Seals.{page_sealed, AreNeededMapped, HasSealNodes, SealsPlan};
 
@@ -69,6 +71,7 @@ pub fn seal_plan<T: Store>(store: &mut T, space: Space, plan: &ElfPlan)
     requires mapped { AreNeededMapped (map_of (forest_of (kernel_of (T.memory store.old))).keys space.0.0) plan.now.loads.items }
     requires room { HasSealNodes (kernel_of (T.memory store.old)) space.0.0 plan.now.loads.items }
     ensures sealed { SealsPlan (kernel_of (T.memory store.old)) (kernel_of (T.memory store.new)) space.0.0 plan.now.loads.items (2 ^ 19) }
+    ensures memory { space_memory (kernel_of (T.memory store.new)) space.0.0 ≡ sealed_memory plan.now.loads.items (space_memory (kernel_of (T.memory store.old)) space.0.0) }
     ensures good { BankGood (kernel_of (T.memory store.new)) }
     ensures keeps { T.keeps store.old store.new }
 {
