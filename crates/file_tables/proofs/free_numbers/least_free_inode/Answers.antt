@@ -1,0 +1,11 @@
+use Rattle.std.proofs.Common.{sym, ◌∙◌}
+use Rattle.kernel_tables.specs.Kernel.{kernel_of, inode_at}
+use Rattle.file_tables.specs.Numbers.{is_free_row, least_free}
+use Rattle.file_tables.proofs.LeastLaws.{least_found}
+use Rattle.file_tables.proofs.free_numbers.least_free_inode.Goals as goal
+
+pub returns-then-is_free_inode-clause-least : goal.returns-then-is_free_inode-clause-least
+unfolding least_free
+returns-then-is_free_inode-clause-least g c =
+    sym (least_found (λ number. is_free_row (inode_at (kernel_of (g.T.Store.memory c.args.store.now)) number)) c.loop-number.number 1024 c.loop-number.invariant
+    (sym c.is_free_inode.ensures.answer ∙ c.if-is_free_inode.true) c.loop-number-test.true)
