@@ -1,2 +1,4 @@
 pub mod LeastLaws
 pub mod GoodLaws
+pub mod RootLaws
+pub mod HandLaws

@@ -7,6 +7,7 @@ ghost use Rattle.kernel_tables.specs.declared.inode.InodeKind.TheVariants.{Conso
 ghost use Rattle.kernel_tables.specs.Kernel.{Kernel, kernel_of, Sized, IsSized, inode_count, inode_at};
 ghost use Rattle.kernel_tables.specs.Blocks.{inode_block, ChangesBlocks};
 ghost use Rattle.file_tables.specs.Rows.{IsInodeAt, InodesGood, row_of};
+ghost use Rattle.file_tables.specs.Roots.{named_by, ExchangesRoots};
 ghost use Rattle.file_tables.specs.Numbers.{TakesInode, NoInodeFree};
 ghost use Rattle.file_tables.specs.Numbers as numbers;
 
@@ -34,6 +35,7 @@ pub fn set_inode<T: Store>(store: &mut T, number: u32, inode: Inode)
     requires number { number < inode_count }
     requires right { IsInodeAt number inode }
     ensures written { let old = kernel_of (T.memory store.old) in kernel_of (T.memory store.new) ≡ record old { inodes = slice_set old.inodes number (Used inode) } }
+    ensures roots { ExchangesRoots (kernel_of (T.memory store.old)) (kernel_of (T.memory store.new)) number (Used inode) }
     ensures good { InodesGood (kernel_of (T.memory store.new)).inodes }
     ensures blocks { ChangesBlocks (T.blocks store.old) (T.blocks store.new) (inode_block number ∷ []) }
     ensures keeps { T.keeps store.old store.new }
@@ -64,6 +66,7 @@ pub fn new_inode<T: Store>(store: &mut T, kind: InodeKind) -> Result<u32, Full>
     requires kind { kind ≢ Console }
     ensures taken { IfOk result (TakesInode (kernel_of (T.memory store.old)) (kernel_of (T.memory store.new)) kind) }
     ensures full { OnErr result (NoInodeFree (kernel_of (T.memory store.old)) (kernel_of (T.memory store.new))) }
+    ensures roots { named_by (kernel_of (T.memory store.new)).inodes ≡ named_by (kernel_of (T.memory store.old)).inodes }
     ensures good { InodesGood (kernel_of (T.memory store.new)).inodes }
     ensures blocks { IfOk result (λ number. ChangesBlocks (T.blocks store.old) (T.blocks store.new) (inode_block number ∷ [])) }
     ensures no_block { OnErr result (ChangesBlocks (T.blocks store.old) (T.blocks store.new) []) }
@@ -85,6 +88,7 @@ pub fn free_inode<T: Store>(store: &mut T, number: u32)
     requires low { 2 ≤ number }
     requires number { number < inode_count }
     ensures written { let old = kernel_of (T.memory store.old) in kernel_of (T.memory store.new) ≡ record old { inodes = slice_set old.inodes number Free } }
+    ensures roots { ExchangesRoots (kernel_of (T.memory store.old)) (kernel_of (T.memory store.new)) number Free }
     ensures good { InodesGood (kernel_of (T.memory store.new)).inodes }
     ensures blocks { ChangesBlocks (T.blocks store.old) (T.blocks store.new) (inode_block number ∷ []) }
     ensures keeps { T.keeps store.old store.new }

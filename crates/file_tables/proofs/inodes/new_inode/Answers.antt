@@ -1,9 +1,12 @@
-use Rattle.std.proofs.Common.{List, ap, subst, sym, ◌∙◌}
-use Rattle.kernel_tables.specs.declared.row.Row.TheVariants.{Used}
+use Rattle.std.proofs.Common.{ap, subst, sym, refl}
+use Rattle.kernel_tables.specs.declared.row.Row.TheVariants.{Used, Free}
 use Rattle.kernel_tables.specs.Kernel.{Kernel, kernel_of}
 use Rattle.kernel_tables.proofs.Sizes.{length-inodes}
 use Rattle.file_tables.specs.Rows.{IsInodeAt, IsInodeRow, InodesGood}
+use Rattle.file_tables.specs.Roots.{root_key}
+use Rattle.file_tables.specs.Numbers.{fresh_inode}
 use Rattle.file_tables.proofs.GoodLaws.{fresh_right, inodes_good-set}
+use Rattle.file_tables.proofs.RootLaws.{fresh_roots}
 use Rattle.file_tables.proofs.inodes.new_inode.Goals as goal
 
 pub returns-in-Some-clause-good : goal.returns-in-Some-clause-good
@@ -14,3 +17,9 @@ returns-in-Some-clause-good g c =
     let right = subst (IsInodeAt number) (sym c.fresh_inode.ensures) (fresh_right c.args.kind number c.requires.kind low) in
     subst InodesGood (sym (ap (λ (kernel : Kernel). kernel.inodes) c.set_inode_entry.ensures.written))
     (inodes_good-set (kernel_of old).inodes number (Used c.fresh_inode.result) (length-inodes old c.requires.sized) c.in-Some.ensures.below right c.requires.good)
+
+pub returns-in-Some-clause-roots : goal.returns-in-Some-clause-roots
+returns-in-Some-clause-roots g c =
+    let old = g.T.Store.memory c.args.store.now in
+    fresh_roots (kernel_of old) _ c.in-Some.number c.args.kind c.fresh_inode.result c.fresh_inode.ensures (length-inodes old c.requires.sized) c.in-Some.ensures.below
+    c.in-Some.ensures.free c.set_inode_entry.ensures.written

@@ -1,0 +1,85 @@
+-- How the roots of files are handed over to the table of inodes and back, each law as one statement.
+use Rattle.std.specs.Prelude.{◌≡◌, ◌↔◌, ℕ, ◌+◌, ◌<◌, ◌≤◌, None, IsSome, List, ◌∷◌, length, slice_set}
+use Rattle.kn_base.specs.declared.key.Key.{Key}
+use Rattle.kn_base.specs.declared.key.Key.TheVariants.{Null}
+use Rattle.kernel_tables.specs.declared.row.Row.{Row}
+use Rattle.kernel_tables.specs.declared.inode.Inode.{Inode}
+use Rattle.kernel_tables.specs.Kernel.{Kernel, inode_at}
+use Rattle.space_bank.specs.Shares.{Outside, Shares}
+use Rattle.space_bank.specs.Laws.{and_outside}
+use Rattle.forest.specs.Objects.{NodeObject}
+use Rattle.forest.specs.Walks.{space_key}
+use Rattle.forest.specs.Forest.{IsRoot}
+use Rattle.kernel_forest.specs.Trees.{forest_of, TreesGood}
+use Rattle.file_tables.specs.Roots.{named_by, root_key, pipe_key, ExchangesRoots}
+
+-- nothing but the tables of files has changed
+abbrev pub WritesFiles : Kernel → Kernel → Type 0
+WritesFiles old new = new ≡ record old { inodes = new.inodes; descriptions = new.descriptions }
+
+-- The bank and the trees don't look at the tables of files.
+abbrev pub TreesBesideFiles : Type 0
+TreesBesideFiles =
+    (old new : Kernel) (outside : Outside) (hand : List Key)
+    → WritesFiles old new → TreesGood old outside hand ↔ TreesGood new outside hand
+
+-- A row is written: the key of its root is handed over to the table, and that of the row which was there is handed back.
+abbrev pub RootExchanged : Type 0
+RootExchanged =
+    (old new : Kernel) (number : ℕ) (row : Row Inode) (hand : List Key)
+    → WritesFiles old new → ExchangesRoots old new number row
+    → TreesGood old (and_outside (named_by old.inodes) (root_key row)) hand
+    → TreesGood new (and_outside (named_by new.inodes) (root_key (inode_at old number))) hand
+
+-- A key is handed over to a row that had no root, ..
+abbrev pub RootHandedOver : Type 0
+RootHandedOver =
+    (old new : Kernel) (number : ℕ) (row : Row Inode) (hand : List Key)
+    → WritesFiles old new → ExchangesRoots old new number row → root_key (inode_at old number) ≡ Null
+    → TreesGood old (and_outside (named_by old.inodes) (root_key row)) hand → TreesGood new (named_by new.inodes) hand
+
+-- .. it is handed back by a row that has none now, ..
+abbrev pub RootHandedBack : Type 0
+RootHandedBack =
+    (old new : Kernel) (number : ℕ) (row : Row Inode) (hand : List Key)
+    → WritesFiles old new → ExchangesRoots old new number row → root_key row ≡ Null
+    → TreesGood old (named_by old.inodes) hand → TreesGood new (and_outside (named_by new.inodes) (root_key (inode_at old number))) hand
+
+-- .. and a row that keeps its root leaves what the table names.
+abbrev pub RootKept : Type 0
+RootKept =
+    (old new : Kernel) (number : ℕ) (row : Row Inode)
+    → ExchangesRoots old new number row → root_key row ≡ root_key (inode_at old number)
+    → named_by new.inodes ≡ named_by old.inodes
+
+-- A space's key that is in hand is handed out, if the space is counted once, ..
+abbrev pub SpaceOutOfHand : Type 0
+SpaceOutOfHand =
+    (kernel : Kernel) (outside : Outside) (hand : List Key) (space : ℕ)
+    → 15 ≤ space → (forest_of kernel).count (NodeObject space) ≡ 1 → IsRoot (forest_of kernel).keys space
+    → TreesGood kernel outside (space_key space ∷ hand) → TreesGood kernel (and_outside outside (space_key space)) hand
+
+-- .. and back in hand.
+abbrev pub SpaceInHand : Type 0
+SpaceInHand =
+    (kernel : Kernel) (outside : Outside) (hand : List Key) (space : ℕ)
+    → 15 ≤ space → IsSome ((forest_of kernel).owner (NodeObject space)) → length hand < 1000
+    → TreesGood kernel (and_outside outside (space_key space)) hand → TreesGood kernel outside (space_key space ∷ hand)
+
+-- So a space's key goes from hand to a row that had no root, ..
+abbrev pub RootOutOfHand : Type 0
+RootOutOfHand =
+    (old new : Kernel) (number : ℕ) (row : Row Inode) (hand : List Key) (space : ℕ)
+    → WritesFiles old new → ExchangesRoots old new number row
+    → root_key (inode_at old number) ≡ Null → root_key row ≡ space_key space
+    → 15 ≤ space → (forest_of old).count (NodeObject space) ≡ 1 → IsRoot (forest_of old).keys space
+    → TreesGood old (named_by old.inodes) (space_key space ∷ hand) → TreesGood new (named_by new.inodes) hand
+
+-- .. and from a row that has none now into hand.
+abbrev pub RootInHand : Type 0
+RootInHand =
+    (old new : Kernel) (number : ℕ) (row : Row Inode) (hand : List Key) (space : ℕ)
+    → WritesFiles old new → ExchangesRoots old new number row
+    → root_key (inode_at old number) ≡ space_key space → root_key row ≡ Null
+    → 15 ≤ space → IsSome ((forest_of old).owner (NodeObject space)) → length hand < 1000
+    → TreesGood old (named_by old.inodes) hand → TreesGood new (named_by new.inodes) (space_key space ∷ hand)
