@@ -2,3 +2,4 @@ pub mod LeastLaws
 pub mod GoodLaws
 pub mod RootLaws
 pub mod HandLaws
+pub mod FreshLaws

@@ -18,7 +18,7 @@ use Rattle.file_tables.specs.Numbers.{fresh_inode}
 use Rattle.file_tables.specs.Laws.{WritesFiles, TreesBesideFiles, RootExchanged, RootHandedOver, RootHandedBack, RootKept}
 
 -- what is outside, by its two counts
-same_counts : {p q : ℕ → ℕ} → p ≡ q → {n m : ℕ → ℕ} → n ≡ m → (let o : Outside = record { pages = p; nodes = n } in o) ≡ record { pages = q; nodes = m }
+pub same_counts : {p q : ℕ → ℕ} → p ≡ q → {n m : ℕ → ℕ} → n ≡ m → (let o : Outside = record { pages = p; nodes = n } in o) ≡ record { pages = q; nodes = m }
 same_counts pages nodes = cc
 
 same_outside : (a b : Outside) → a.pages ≡ b.pages → a.nodes ≡ b.nodes → a ≡ b

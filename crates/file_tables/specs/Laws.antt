@@ -4,14 +4,29 @@ use Rattle.kn_base.specs.declared.key.Key.{Key}
 use Rattle.kn_base.specs.declared.key.Key.TheVariants.{Null}
 use Rattle.kernel_tables.specs.declared.row.Row.{Row}
 use Rattle.kernel_tables.specs.declared.inode.Inode.{Inode}
-use Rattle.kernel_tables.specs.Kernel.{Kernel, inode_at}
-use Rattle.space_bank.specs.Shares.{Outside, Shares}
+use Rattle.kernel_tables.specs.declared.description.Description.{Description}
+use Rattle.kernel_tables.specs.Kernel.{Kernel, inode_at, inode_count}
+use Rattle.space_bank.specs.Shares.{Outside, nothing_outside}
+use Rattle.space_bank.specs.Fixed.{FreshFiles}
 use Rattle.space_bank.specs.Laws.{and_outside}
 use Rattle.forest.specs.Objects.{NodeObject}
 use Rattle.forest.specs.Walks.{space_key}
 use Rattle.forest.specs.Forest.{IsRoot}
 use Rattle.kernel_forest.specs.Trees.{forest_of, TreesGood}
-use Rattle.file_tables.specs.Roots.{named_by, root_key, pipe_key, ExchangesRoots}
+use Rattle.file_tables.specs.Rows.{InodesGood, DescriptionsGood}
+use Rattle.file_tables.specs.Roots.{named_by, root_key, ExchangesRoots}
+
+-- The tables of files of a new machine are good, ..
+abbrev pub FreshFilesAreGood : Type 0
+FreshFilesAreGood =
+    (inodes : List (Row Inode)) (descriptions : List (Row Description))
+    → FreshFiles inodes descriptions → InodesGood inodes × DescriptionsGood descriptions
+
+-- .. and they name nothing.
+abbrev pub FreshFilesNameNothing : Type 0
+FreshFilesNameNothing =
+    (inodes : List (Row Inode)) (descriptions : List (Row Description))
+    → length inodes ≡ inode_count → FreshFiles inodes descriptions → named_by inodes ≡ nothing_outside
 
 -- nothing but the tables of files has changed
 abbrev pub WritesFiles : Kernel → Kernel → Type 0

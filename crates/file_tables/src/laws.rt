@@ -1,6 +1,16 @@
 //! Laws of the roots of files: what the bank and the forest make of a row that is written.
 
-ghost use Rattle.file_tables.specs.Laws.{TreesBesideFiles, RootExchanged, RootHandedOver, RootHandedBack, RootKept, SpaceOutOfHand, SpaceInHand, RootOutOfHand, RootInHand};
+ghost use Rattle.file_tables.specs.Laws.{FreshFilesAreGood, FreshFilesNameNothing, TreesBesideFiles, RootExchanged, RootHandedOver, RootHandedBack, RootKept, SpaceOutOfHand, SpaceInHand, RootOutOfHand, RootInHand};
+
+/// The tables of files of a new machine are good.
+pub fn fresh_files_are_good()
+    ensures { FreshFilesAreGood }
+{}
+
+/// The inodes of a new machine name nothing.
+pub fn fresh_files_name_nothing()
+    ensures { FreshFilesNameNothing }
+{}
 
 /// The bank and the trees don't look at the tables of files.
 pub fn trees_beside_files()
