@@ -12,7 +12,7 @@ ghost use Rattle.tests_spaces.specs.Ready.{IsReady, KeepsSpaces};
 use kernel_tables::{NodeOwner, bank_size, first_bank_page};
 use kn_base::{Key, NodeId, PageId, Store};
 use obj_store::{NoMemory, RamStore};
-use seg_tree::{Space, find, map_zero, new_space, protect, share, writable};
+use seg_tree::{Space, find, map_zero, mapped, new_space, protect, share, unmap, writable};
 use space_bank::{setup, taken_of};
 use std::alloc::Global;
 use user_copy::{can_write, page_owner, put_bytes};
@@ -101,6 +101,34 @@ pub fn seal<T: Store>(store: &mut T, space: Space, page: u32) -> bool
         }
         None => false,
     }
+}
+
+/// Takes the page away that is mapped at a page number.
+pub fn take_away<T: Store>(store: &mut T, space: Space, page: u32) -> bool
+    requires ready { IsReady (kernel_of (T.memory store.old)) }
+    requires space { IsSpace (forest_of (kernel_of (T.memory store.old))) [] space.0.0 }
+    ensures ready { IsReady (kernel_of (T.memory store.new)) }
+    ensures spaces { KeepsSpaces (kernel_of (T.memory store.old)) (kernel_of (T.memory store.new)) }
+    ensures stays { IsSpace (forest_of (kernel_of (T.memory store.new))) [] space.0.0 }
+{
+    if page >= 0x8_0000 || !has_room(store) {
+        return false;
+    }
+    match find(store, space, page) {
+        Some(_found) => {
+            unmap(store, space, page);
+            true
+        }
+        None => false,
+    }
+}
+
+/// How many pages are mapped.
+pub fn count_mapped<T: Store>(store: &T, space: Space) -> u32
+    requires ready { IsReady (kernel_of (T.memory store.now)) }
+    requires space { IsSpace (forest_of (kernel_of (T.memory store.now))) [] space.0.0 }
+{
+    mapped(store, space)
 }
 
 /// The page that may be written at a page number, once it is this space's own.

@@ -5,3 +5,5 @@
 pub mod guarded;
 #[cfg(test)]
 mod rows;
+#[cfg(test)]
+mod walk;

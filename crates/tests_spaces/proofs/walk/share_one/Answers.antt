@@ -1,0 +1,12 @@
+use Rattle.std.proofs.Common.{sym, subst}
+use Rattle.kernel_tables.specs.Kernel.{kernel_of}
+use Rattle.tests_spaces.specs.Ready.{AreSpaces}
+use Rattle.tests_spaces.proofs.Walking.{spaces_kept, space_more}
+use Rattle.tests_spaces.proofs.walk.share_one.Goals as goal
+
+pub returns-clause-spaces : goal.returns-clause-spaces
+returns-clause-spaces g c =
+    let old = kernel_of (g.T.Store.memory c.args.store.now) in
+    let new = kernel_of (g.T.Store.memory c.share_of.new.store) in
+    subst (AreSpaces new) (sym c.keep.ensures)
+    (space_more new c.args.spaces.now.items c.in-Some.copy (spaces_kept old new c.args.spaces.now.items c.share_of.ensures.spaces c.requires.spaces) c.in-Some.ensures.added)
