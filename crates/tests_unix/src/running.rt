@@ -102,6 +102,7 @@ pub(crate) fn run_session(rt: &HostRuntime, session: Session, tally: &mut Tally)
         name,
         pages,
         mut entries,
+        init_place,
         path,
         program,
         input,
@@ -112,7 +113,11 @@ pub(crate) fn run_session(rt: &HostRuntime, session: Session, tally: &mut Tally)
         holds,
         left,
     } = session;
-    entries.push(Entry::assembled(rt, path, program.source()?)?)?;
+    let last = Entry::assembled(rt, path, program.source()?)?;
+    match init_place {
+        Some(place) => entries.insert(place.min(entries.len()), last)?,
+        None => entries.push(last)?,
+    }
     let mut input = MemSource::new(input, failing_reads);
     let mut output = match MemSink::new(alloc, CONSOLE_BYTES, Vec::new(alloc)) {
         Ok(output) => output,

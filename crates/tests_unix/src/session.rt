@@ -22,6 +22,8 @@ pub(crate) struct Session {
     pub name: String,
     pub pages: u32,
     pub entries: Vec<Entry>,
+    /// Before how many of them `/init` stands, where that is said.
+    pub init_place: Option<usize>,
     pub path: String,
     pub program: Program,
     pub input: Vec<u8>,
@@ -40,6 +42,7 @@ impl Session {
             name: String::from_str(alloc, name)?,
             pages: 2048,
             entries: Vec::new(alloc),
+            init_place: None,
             path: String::from_str(alloc, "/init")?,
             program: Program::first(alloc)?,
             input: Vec::new(alloc),
@@ -155,6 +158,10 @@ impl Session {
                 let bytes = bytes_of(alloc, text)?;
                 self.expect(number, bytes.as_slice())
             }
+            ("told", Some(value)) => {
+                let word = word_of(value)?;
+                self.expect(number, &word.to_le_bytes())
+            }
             ("data", None) => self.program.data_line(left),
             _ => self.program.line(line),
         }
@@ -183,8 +190,11 @@ fn zeros(alloc: Global, count: u32) -> io::Result<Vec<u8>> {
     Ok(bytes)
 }
 
-/// Runs each session of a text: one begins at each line of `=` and a name.
+/// Runs each session of a text: one begins at each line of `=` and a name. Lines behind `* setup` are kept, and stand for
+/// each line `@ setup`.
 pub(crate) fn run_sessions(rt: &HostRuntime, text: &str, tally: &mut Tally) -> io::Result<()> {
+    let mut setup = Vec::new(rt.alloc());
+    let mut is_setup = false;
     let mut session: Option<Session> = None;
     for (number, line) in text.lines().enumerate() {
         let line = line.trim();
@@ -193,8 +203,13 @@ pub(crate) fn run_sessions(rt: &HostRuntime, text: &str, tally: &mut Tally) -> i
                 run_session(rt, done, tally)?;
             }
             session = Some(Session::new(rt.alloc(), name)?);
+            is_setup = false;
+        } else if line == "* setup" {
+            is_setup = true;
+        } else if is_setup {
+            setup.push(String::from_str(rt.alloc(), line)?)?;
         } else if let Some(session) = &mut session {
-            add_line(rt, session, number, line)?;
+            add_lines(rt, session, number, line, setup.as_slice())?;
         }
     }
     match session {
@@ -203,12 +218,33 @@ pub(crate) fn run_sessions(rt: &HostRuntime, text: &str, tally: &mut Tally) -> i
     }
 }
 
+/// A line of a session, or the lines that were kept.
+fn add_lines(
+    rt: &HostRuntime,
+    session: &mut Session,
+    number: usize,
+    line: &str,
+    setup: &[String],
+) -> io::Result<()> {
+    if line != "@ setup" {
+        return add_line(rt, session, number, line);
+    }
+    for kept in setup {
+        add_line(rt, session, number, kept.as_str())?;
+    }
+    Ok(())
+}
+
 /// A line of a session; none that is empty or begins with `#`.
 fn add_line(rt: &HostRuntime, session: &mut Session, number: usize, line: &str) -> io::Result<()> {
     if line.is_empty() || line.starts_with('#') {
         return Ok(());
     }
     match line.strip_prefix("@ ") {
+        Some("init") => {
+            session.init_place = Some(session.entries.len());
+            Ok(())
+        }
         Some(set) => match set.split_once(' ') {
             Some((word, rest)) => session.set(rt, word, rest.trim()),
             None => Err(malformed()),
