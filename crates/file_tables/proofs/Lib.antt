@@ -3,3 +3,4 @@ pub mod GoodLaws
 pub mod RootLaws
 pub mod HandLaws
 pub mod FreshLaws
+pub mod PageLaws

@@ -1,20 +1,22 @@
 -- How the roots of files are handed over to the table of inodes and back, each law as one statement.
-use Rattle.std.specs.Prelude.{◌≡◌, ◌↔◌, ℕ, ◌+◌, ◌<◌, ◌≤◌, None, IsSome, List, ◌∷◌, length, slice_set}
+use Rattle.std.specs.Prelude.{◌≡◌, ◌↔◌, ℕ, ◌+◌, ◌-◌, ◌<◌, ◌≤◌, None, IsSome, List, ◌∷◌, length, slice_set}
 use Rattle.kn_base.specs.declared.key.Key.{Key}
 use Rattle.kn_base.specs.declared.key.Key.TheVariants.{Null}
 use Rattle.kernel_tables.specs.declared.row.Row.{Row}
 use Rattle.kernel_tables.specs.declared.inode.Inode.{Inode}
 use Rattle.kernel_tables.specs.declared.description.Description.{Description}
-use Rattle.kernel_tables.specs.Kernel.{Kernel, inode_at, inode_count}
-use Rattle.space_bank.specs.Shares.{Outside, nothing_outside}
+use Rattle.kernel_tables.specs.declared.entry.PageOwner.{PageOwner}
+use Rattle.kernel_tables.specs.Kernel.{Kernel, inode_at, inode_count, first_page, IsBankPage}
+use Rattle.space_bank.specs.Shares.{Outside, nothing_outside, PutsPageInHand, TakesPageOutOfHand}
+use Rattle.space_bank.specs.Bank.{BankGood, TakesPage, page_given}
 use Rattle.space_bank.specs.Fixed.{FreshFiles}
 use Rattle.space_bank.specs.Laws.{and_outside}
-use Rattle.forest.specs.Objects.{NodeObject}
+use Rattle.forest.specs.Objects.{PageObject, NodeObject}
 use Rattle.forest.specs.Walks.{space_key}
 use Rattle.forest.specs.Forest.{IsRoot}
-use Rattle.kernel_forest.specs.Trees.{forest_of, TreesGood}
+use Rattle.kernel_forest.specs.Trees.{forest_of, page_tree, TreesGood}
 use Rattle.file_tables.specs.Rows.{InodesGood, DescriptionsGood}
-use Rattle.file_tables.specs.Roots.{named_by, root_key, ExchangesRoots}
+use Rattle.file_tables.specs.Roots.{named_by, root_key, pipe_key, ExchangesRoots}
 
 -- The tables of files of a new machine are good, ..
 abbrev pub FreshFilesAreGood : Type 0
@@ -98,3 +100,18 @@ RootInHand =
     → root_key (inode_at old number) ≡ space_key space → root_key row ≡ Null
     → 15 ≤ space → IsSome ((forest_of old).owner (NodeObject space)) → length hand < 1000
     → TreesGood old (named_by old.inodes) hand → TreesGood new (named_by new.inodes) (space_key space ∷ hand)
+
+-- A page that was taken for no tree, as a pipe's, is handed over at once: its key is outside, and no tree has changed.
+abbrev pub OtherPageTaken : Type 0
+OtherPageTaken =
+    (old new : Kernel) (page : ℕ) (owner : PageOwner) (outside : Outside) (hand : List Key)
+    → BankGood old → page_tree owner ≡ None → TakesPage old new page owner → PutsPageInHand old new page
+    → TreesGood old outside hand → TreesGood new (and_outside outside (pipe_key page)) hand
+
+-- Such a page is given back, whose key was outside.
+abbrev pub OtherPageGiven : Type 0
+OtherPageGiven =
+    (old new : Kernel) (page : ℕ) (outside : Outside) (hand : List Key)
+    → BankGood old → IsBankPage old.size page → (forest_of old).owner (PageObject page) ≡ None
+    → new ≡ page_given old (page - first_page old.size) → TakesPageOutOfHand old new page
+    → TreesGood old (and_outside outside (pipe_key page)) hand → TreesGood new outside hand

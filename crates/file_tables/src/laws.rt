@@ -1,6 +1,6 @@
 //! Laws of the roots of files: what the bank and the forest make of a row that is written.
 
-ghost use Rattle.file_tables.specs.Laws.{FreshFilesAreGood, FreshFilesNameNothing, TreesBesideFiles, RootExchanged, RootHandedOver, RootHandedBack, RootKept, SpaceOutOfHand, SpaceInHand, RootOutOfHand, RootInHand};
+ghost use Rattle.file_tables.specs.Laws.{FreshFilesAreGood, FreshFilesNameNothing, TreesBesideFiles, RootExchanged, RootHandedOver, RootHandedBack, RootKept, SpaceOutOfHand, SpaceInHand, RootOutOfHand, RootInHand, OtherPageTaken, OtherPageGiven};
 
 /// The tables of files of a new machine are good.
 pub fn fresh_files_are_good()
@@ -55,4 +55,14 @@ pub fn root_out_of_hand()
 /// The key of a space goes from a row into hand.
 pub fn root_in_hand()
     ensures { RootInHand }
+{}
+
+/// A page that was taken for no tree is handed over at once.
+pub fn other_page_taken()
+    ensures { OtherPageTaken }
+{}
+
+/// A page of no tree is given back.
+pub fn other_page_given()
+    ensures { OtherPageGiven }
 {}

@@ -14,7 +14,7 @@ pub use free_numbers::Full;
 pub use inodes::{free_inode, inode_of, new_inode, set_inode};
 pub use kernel_tables::{Description, Inode, InodeKind};
 pub use laws::{
-    fresh_files_are_good, fresh_files_name_nothing,
+    fresh_files_are_good, fresh_files_name_nothing, other_page_given, other_page_taken,
     root_exchanged, root_handed_back, root_handed_over, root_in_hand, root_kept, root_out_of_hand,
     space_in_hand, space_out_of_hand, trees_beside_files,
 };
