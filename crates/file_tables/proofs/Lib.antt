@@ -4,3 +4,4 @@ pub mod RootLaws
 pub mod HandLaws
 pub mod FreshLaws
 pub mod PageLaws
+pub mod FreeRowLaws
