@@ -1,5 +1,5 @@
 -- The tables of files of a new machine.
-use Rattle.std.proofs.Common.{◌≡◌, ◌≢◌, ℕ, zero, suc, ◌+◌, ◌<◌, ◌≤◌, Bool, false, cond, List, [], ◌∷◌, length, get_or, refl, ap, sym, subst, ◌∙◌, ⊎_elim, arith}
+use Rattle.std.proofs.Common.{◌≡◌, ◌≢◌, ℕ, suc, ◌+◌, ◌<◌, ◌≤◌, Bool, false, cond, List, [], ◌∷◌, length, get_or, refl, ap, sym, subst, ⊎_elim, arith}
 use Rattle.std.proofs.Math.Path.{fun_ext}
 use Rattle.std.proofs.lemmas.Bool.{cases_eq}
 use Rattle.std.proofs.lemmas.List.Sums.{sum_by-cons}
@@ -11,9 +11,9 @@ use Rattle.kernel_tables.specs.declared.inode.Inode.{Inode}
 use Rattle.kernel_tables.specs.declared.description.Description.{Description}
 use Rattle.kn_base.specs.declared.key.Key.TheVariants.{Null}
 use Rattle.space_bank.specs.Fixed.{FreshFiles, console_inode, empty_root}
-use Rattle.space_bank.specs.Shares.{nothing_outside, key_names_page, key_names_node}
-use Rattle.file_tables.specs.Rows.{IsInodeAt, IsInodeRow, IsDescriptionRow, InodesGood, DescriptionsGood}
-use Rattle.file_tables.specs.Roots.{root_key, page_roots, node_roots, named_by}
+use Rattle.space_bank.specs.Shares.{key_names_page, key_names_node}
+use Rattle.file_tables.specs.Rows.{IsInodeAt, IsInodeRow, IsDescriptionRow}
+use Rattle.file_tables.specs.Roots.{root_key, page_roots, node_roots}
 use Rattle.file_tables.specs.Laws.{FreshFilesAreGood, FreshFilesNameNothing}
 use Rattle.file_tables.proofs.RootLaws.{same_counts}
 

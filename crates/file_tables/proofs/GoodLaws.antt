@@ -1,12 +1,13 @@
 -- What is written keeps the table of inodes good.
-use Rattle.std.proofs.Common.{◌≡◌, ◌≢◌, ℕ, ◌<◌, ◌≤◌, List, length, set, get_or, refl, ap, sym, subst, ◌∙◌, ⊎_elim, arith}
+use Rattle.std.proofs.Common.{◌≡◌, ◌≢◌, ℕ, ◌<◌, ◌≤◌, List, length, set, get_or, refl, sym, subst, ⊎_elim, arith}
 use Rattle.std.proofs.lemmas.List.{get_or-set_same, get_or-set_other}
 use Rattle.std.proofs.lemmas.Bool.{cases_eq}
 use Rattle.kernel_tables.specs.declared.row.Row.{Row}
-use Rattle.kernel_tables.specs.declared.row.Row.TheVariants.{Free, Used, Unspelled}
+use Rattle.kernel_tables.specs.declared.row.Row.TheVariants.{Unspelled}
 use Rattle.kernel_tables.specs.declared.inode.InodeKind.{InodeKind}
 use Rattle.kernel_tables.specs.declared.inode.InodeKind.TheVariants.{File, Dir, Pipe, Console}
 use Rattle.kernel_tables.specs.declared.inode.Inode.{Inode}
+use Rattle.kernel_tables.specs.Kernel.{Kernel}
 use Rattle.file_tables.specs.Rows.{IsOfKind, IsInodeAt, IsInodeRow, InodesGood}
 use Rattle.file_tables.specs.Numbers.{fresh_inode}
 
@@ -26,7 +27,7 @@ fresh_right kind number other low = record {
     of Console other = absurd (other refl)
 
 -- a right row is written
-pub inodes_good-set : (inodes : List (Row Inode)) (number : ℕ) (row : Row Inode) → length inodes ≡ 1024 → number < 1024 → IsInodeRow number row → InodesGood inodes → InodesGood (set inodes number row)
+inodes_good-set : (inodes : List (Row Inode)) (number : ℕ) (row : Row Inode) → length inodes ≡ 1024 → number < 1024 → IsInodeRow number row → InodesGood inodes → InodesGood (set inodes number row)
 inodes_good-set inodes number row all inside right good = record {
   right = λ other below. ⊎_elim
       (λ (t : number ≡ other).
@@ -36,3 +37,8 @@ inodes_good-set inodes number row all inside right good = record {
       subst (IsInodeRow other) (sym (get_or-set_other inodes number other row Unspelled (λ e. t (sym e)))) (good.right other below))
       (cases_eq number other);
 }
+
+pub inodes_good-written : (old new : Kernel) (number : ℕ) (row : Row Inode) → new ≡ record old { inodes = set old.inodes number row } → length old.inodes ≡ 1024 → number < 1024
+    → IsInodeRow number row → InodesGood old.inodes → InodesGood new.inodes
+inodes_good-written old new number row e all inside right good =
+    subst (λ (kernel : Kernel). InodesGood kernel.inodes) (sym e) (inodes_good-set old.inodes number row all inside right good)

@@ -1,5 +1,5 @@
 -- A space's key goes from hand to the table of inodes and back.
-use Rattle.std.proofs.Common.{◌≡◌, ◌≢◌, ℕ, ◌+◌, ◌<◌, ◌≤◌, Some, List, ◌∷◌, length, refl, ap, sym, subst, ◌∙◌, ⊎_elim, arith, Bool, true, false}
+use Rattle.std.proofs.Common.{◌≡◌, ◌≢◌, ℕ, ◌+◌, ◌≤◌, List, ◌∷◌, refl, ap, sym, subst, ◌∙◌, ⊎_elim, arith, Bool, true, false}
 use Rattle.std.specs.Option.{IsSome}
 use Rattle.std.proofs.lemmas.Bool.{cases_eq}
 use Rattle.kn_base.specs.declared.key.Key.{Key}
@@ -17,7 +17,7 @@ use Rattle.forest.proofs.HeldLaws.{not_key, hand_out_keeps_held, hand_in_keeps_h
 use Rattle.forest.proofs.ReleaseLaws.{is_or_not}
 use Rattle.kernel_forest.specs.Trees.{forest_of, outside_trees, TreesGood}
 use Rattle.kernel_forest.proofs.Outside.{space_out}
-use Rattle.file_tables.specs.Roots.{named_by, root_key}
+use Rattle.file_tables.specs.Roots.{named_by}
 use Rattle.file_tables.specs.Laws.{SpaceOutOfHand, SpaceInHand, RootOutOfHand, RootInHand}
 use Rattle.file_tables.proofs.RootLaws.{handed_over, handed_back}
 

@@ -1,5 +1,5 @@
 -- What a page that belongs to no tree is for the forest: as good as nothing.
-use Rattle.std.proofs.Common.{◌≡◌, ◌≢◌, ℕ, ◌+◌, ◌-◌, ◌<◌, ◌≤◌, None, Option, Some, List, ◌∷◌, length, set, refl, ap, sym, subst, ◌∙◌, ⊎_elim, arith, if◌then◌else◌, true, false, cond}
+use Rattle.std.proofs.Common.{◌≡◌, ◌≢◌, ℕ, ◌+◌, ◌-◌, ◌<◌, ◌≤◌, None, List, length, set, refl, ap, sym, subst, ◌∙◌, ⊎_elim, arith, if◌then◌else◌, true, false, cond}
 use Rattle.std.specs.Option.{IsSome, is_some}
 use Rattle.std.proofs.Math.Path.{fun_ext}
 use Rattle.std.proofs.lemmas.Bool.{cases_lt, eq-eqb, lt-ltb, le-ltb, ne_eqb}
@@ -11,7 +11,7 @@ use Rattle.kernel_tables.specs.declared.entry.Entry.TheVariants.{Free, Taken, Fi
 use Rattle.kernel_tables.specs.Kernel.{Kernel, first_page}
 use Rattle.kernel_tables.specs.Rows.{entry_at, key_table}
 use Rattle.space_bank.specs.FreeList.{is_free}
-use Rattle.space_bank.specs.Shares.{Outside, Shares, key_names_page, key_names_node}
+use Rattle.space_bank.specs.Shares.{Outside, Shares, key_names_page}
 use Rattle.space_bank.specs.Laws.{and_outside}
 use Rattle.space_bank.proofs.EntryLaws.{set_cases, free_spelled}
 use Rattle.space_bank.proofs.FreeListLaws.{entry_inside}

@@ -1,5 +1,5 @@
 -- What the table of inodes names, and how its keys are handed over.
-use Rattle.std.proofs.Common.{◌≡◌, ◌≢◌, ℕ, ◌+◌, ◌<◌, ◌≤◌, true, false, cond, List, ◌∷◌, length, set, get_or, refl, ap, sym, subst, ◌∙◌, ⊎_elim, arith}
+use Rattle.std.proofs.Common.{◌≡◌, ℕ, ◌<◌, cond, List, length, set, get_or, refl, ap, sym, subst, ◌∙◌, arith}
 use Rattle.std.proofs.Math.Path.{fun_ext}
 use Rattle.std.proofs.lemmas.List.Sums.{sum_by-set}
 use Rattle.kn_base.specs.declared.key.Key.{Key}
@@ -10,9 +10,9 @@ use Rattle.kernel_tables.specs.declared.inode.InodeKind.{InodeKind}
 use Rattle.kernel_tables.specs.declared.inode.InodeKind.TheVariants.{File, Dir, Pipe, Console}
 use Rattle.kernel_tables.specs.declared.inode.Inode.{Inode}
 use Rattle.kernel_tables.specs.Kernel.{Kernel, inode_at}
-use Rattle.space_bank.specs.Shares.{Outside, Shares, key_names_page, key_names_node}
+use Rattle.space_bank.specs.Shares.{Outside, key_names_page, key_names_node}
 use Rattle.space_bank.specs.Laws.{and_outside}
-use Rattle.kernel_forest.specs.Trees.{forest_of, outside_trees, TreesGood}
+use Rattle.kernel_forest.specs.Trees.{TreesGood}
 use Rattle.file_tables.specs.Roots.{root_key, page_roots, node_roots, named_by, ExchangesRoots}
 use Rattle.file_tables.specs.Numbers.{fresh_inode}
 use Rattle.file_tables.specs.Laws.{WritesFiles, TreesBesideFiles, RootExchanged, RootHandedOver, RootHandedBack, RootKept}

@@ -22,7 +22,11 @@ fn is_free_inode<T: Store>(store: &T, number: u32) -> bool
     ensures free { IsTrue result → inode_at (kernel_of (T.memory store.now)) number ≡ Free }
 {
     let mut kind = [0; 4];
-    store.read_page(PageId(2 + number / 128), (32 * (number % 128)) as u16, &mut kind);
+    store.read_page(
+        PageId(2 + number / 128),
+        (32 * (number % 128)) as u16,
+        &mut kind,
+    );
     u32::from_le_bytes(kind) == 0
 }
 
@@ -52,7 +56,11 @@ fn is_free_description<T: Store>(store: &T, number: u16) -> bool
     ensures free { IsTrue result → description_at (kernel_of (T.memory store.now)) number ≡ Free }
 {
     let mut used = [0; 1];
-    store.read_page(PageId(10 + number as u32 / 256), 16 * (number % 256), &mut used);
+    store.read_page(
+        PageId(10 + number as u32 / 256),
+        16 * (number % 256),
+        &mut used,
+    );
     used[0] == 0
 }
 

@@ -1,11 +1,9 @@
-use Rattle.std.proofs.Common.{ap, subst, sym, refl}
-use Rattle.kernel_tables.specs.declared.row.Row.TheVariants.{Used, Free}
-use Rattle.kernel_tables.specs.Kernel.{Kernel, kernel_of}
+use Rattle.std.proofs.Common.{subst, sym}
+use Rattle.kernel_tables.specs.declared.row.Row.TheVariants.{Used}
+use Rattle.kernel_tables.specs.Kernel.{kernel_of}
 use Rattle.kernel_tables.proofs.Sizes.{length-inodes}
-use Rattle.file_tables.specs.Rows.{IsInodeAt, IsInodeRow, InodesGood}
-use Rattle.file_tables.specs.Roots.{root_key}
-use Rattle.file_tables.specs.Numbers.{fresh_inode}
-use Rattle.file_tables.proofs.GoodLaws.{fresh_right, inodes_good-set}
+use Rattle.file_tables.specs.Rows.{IsInodeAt, IsInodeRow}
+use Rattle.file_tables.proofs.GoodLaws.{fresh_right, inodes_good-written}
 use Rattle.file_tables.proofs.RootLaws.{fresh_roots}
 use Rattle.file_tables.proofs.inodes.new_inode.Goals as goal
 
@@ -15,8 +13,7 @@ returns-in-Some-clause-good g c =
     let number = c.in-Some.number in
     let low = subst (IsInodeRow number) c.in-Some.ensures.free (c.requires.good.right number c.in-Some.ensures.below) in
     let right = subst (IsInodeAt number) (sym c.fresh_inode.ensures) (fresh_right c.args.kind number c.requires.kind low) in
-    subst InodesGood (sym (ap (λ (kernel : Kernel). kernel.inodes) c.set_inode_entry.ensures.written))
-    (inodes_good-set (kernel_of old).inodes number (Used c.fresh_inode.result) (length-inodes old c.requires.sized) c.in-Some.ensures.below right c.requires.good)
+    inodes_good-written (kernel_of old) _ number (Used c.fresh_inode.result) c.set_inode_entry.ensures.written (length-inodes old c.requires.sized) c.in-Some.ensures.below right c.requires.good
 
 pub returns-in-Some-clause-roots : goal.returns-in-Some-clause-roots
 returns-in-Some-clause-roots g c =
