@@ -5,6 +5,7 @@ use flat_unix::{Flat, FlatFault};
 use rv_asm::{AsmFault, assemble};
 use std::alloc::{AllocError, Global};
 use std::io;
+use userland::program;
 
 /// A path, and the bytes of the file there; a directory where there are none.
 #[derive(Drop)]
@@ -29,18 +30,25 @@ impl Entry {
     }
 
     /// A program from its assembly source.
-    pub(crate) fn assembled(rt: &HostRuntime, path: String, source: String) -> io::Result<Entry> {
-        match assemble(rt.alloc(), source.as_bytes()) {
+    pub(crate) fn assembled(rt: &HostRuntime, path: String, source: &[u8]) -> io::Result<Entry> {
+        match assemble(rt.alloc(), source) {
             Ok(file) => Ok(Entry {
                 path,
                 bytes: Some(file),
             }),
-            Err(AsmFault::At { kind: _, line }) => {
-                let wrong = source.lines().nth((line as usize).saturating_sub(1));
-                println!(rt; "{path}, line {line}: {}", wrong.unwrap_or(""))?;
+            Err(AsmFault::At { kind, line }) => {
+                println!(rt; "{path}, line {line}: {kind:?}")?;
                 Err(malformed())
             }
             Err(AsmFault::NoMemory) => Err(io::Error::from(io::ErrorKind::OutOfMemory)),
+        }
+    }
+
+    /// The program of this name among those of the userland.
+    pub(crate) fn of_userland(rt: &HostRuntime, path: &str, name: &str) -> io::Result<Entry> {
+        match program(name.as_bytes()) {
+            Some(source) => Entry::assembled(rt, String::from_str(rt.alloc(), path)?, source),
+            None => Err(malformed()),
         }
     }
 }

@@ -113,7 +113,8 @@ pub(crate) fn run_session(rt: &HostRuntime, session: Session, tally: &mut Tally)
         holds,
         left,
     } = session;
-    let last = Entry::assembled(rt, path, program.source()?)?;
+    let source = program.source()?;
+    let last = Entry::assembled(rt, path, source.as_bytes())?;
     match init_place {
         Some(place) => entries.insert(place.min(entries.len()), last)?,
         None => entries.push(last)?,

@@ -78,7 +78,16 @@ impl Session {
         let done = std::mem::replace(&mut self.path, path);
         let program = std::mem::replace(&mut self.program, Program::new(rt.alloc()));
         let source = program.source()?;
-        self.entries.push(Entry::assembled(rt, done, source)?)?;
+        self.entries.push(Entry::assembled(rt, done, source.as_bytes())?)?;
+        Ok(())
+    }
+
+    /// A program of the userland. Where it is the first one, the session's own program stands elsewhere.
+    fn use_program(&mut self, rt: &HostRuntime, path: &str, name: &str) -> io::Result<()> {
+        self.entries.push(Entry::of_userland(rt, path, name)?)?;
+        if self.path.as_str() == path {
+            self.path = String::from_str(rt.alloc(), "/session")?;
+        }
         Ok(())
     }
 
@@ -104,6 +113,7 @@ impl Session {
                 .entries
                 .push(Entry::file(alloc, first, fs::read(rt, second)?)?)?,
             "program" => self.next_program(rt, first)?,
+            "user" => self.use_program(rt, first, second)?,
             "input" => self
                 .input
                 .extend_from_slice(bytes_of(alloc, rest)?.as_slice())?,
