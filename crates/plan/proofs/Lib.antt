@@ -1,0 +1,2 @@
+mod Dividing
+mod Reading
