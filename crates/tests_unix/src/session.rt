@@ -78,7 +78,8 @@ impl Session {
         let done = std::mem::replace(&mut self.path, path);
         let program = std::mem::replace(&mut self.program, Program::new(rt.alloc()));
         let source = program.source()?;
-        self.entries.push(Entry::assembled(rt, done, source.as_bytes())?)?;
+        self.entries
+            .push(Entry::assembled(rt, done, source.as_bytes())?)?;
         Ok(())
     }
 

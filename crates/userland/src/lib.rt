@@ -9,6 +9,8 @@ mod pump;
 mod tee;
 mod wc;
 
+ghost use Rattle.std.specs.Prelude.{◌≡◌};
+
 pub use cat::CAT;
 pub use echo::ECHO;
 pub use init::INIT;
@@ -17,11 +19,8 @@ pub use pump::PUMP;
 pub use tee::TEE;
 pub use wc::WC;
 
-ghost use Rattle.std.specs.Prelude.{◌≡◌};
-
 /// The source of the program of this name; None where no program has it.
-pub fn program(name: &[u8]) -> Option<&'static [u8]>
-{
+pub fn program(name: &[u8]) -> Option<&'static [u8]> {
     match name {
         b"init" => Some(INIT),
         b"echo" => Some(ECHO),
