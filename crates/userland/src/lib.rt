@@ -9,8 +9,6 @@ mod pump;
 mod tee;
 mod wc;
 
-ghost use Rattle.std.specs.Prelude.{◌≡◌};
-
 pub use cat::CAT;
 pub use echo::ECHO;
 pub use init::INIT;
@@ -19,8 +17,14 @@ pub use pump::PUMP;
 pub use tee::TEE;
 pub use wc::WC;
 
+ghost use Rattle.std.specs.Prelude.{◌≡◌, option_map};
+ghost use Rattle.userland.specs.Programs.{source_named};
+
 /// The source of the program of this name; None where no program has it.
-pub fn program(name: &[u8]) -> Option<&'static [u8]> {
+#[tactic(auto, unfolding(crate::specs::Programs::source_named))]
+pub fn program(name: &[u8]) -> Option<&'static [u8]>
+    ensures { option_map (λ source. source.now) result ≡ source_named name.now }
+{
     match name {
         b"init" => Some(INIT),
         b"echo" => Some(ECHO),
