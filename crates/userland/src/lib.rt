@@ -9,6 +9,9 @@ mod pump;
 mod tee;
 mod wc;
 
+ghost use Rattle.std.specs.Prelude.{◌≡◌, option_map};
+ghost use Rattle.userland.specs.Programs.{source_named};
+
 pub use cat::CAT;
 pub use echo::ECHO;
 pub use init::INIT;
@@ -16,9 +19,6 @@ pub use ls::LS;
 pub use pump::PUMP;
 pub use tee::TEE;
 pub use wc::WC;
-
-ghost use Rattle.std.specs.Prelude.{◌≡◌, option_map};
-ghost use Rattle.userland.specs.Programs.{source_named};
 
 /// The source of the program of this name; None where no program has it.
 #[tactic(auto, unfolding(crate::specs::Programs::source_named))]
