@@ -1,0 +1,88 @@
+-- Rows of keys, while a key is written in one.
+use Rattle.std.proofs.Common.{◌≡◌, ◌≢◌, ◌<◌, ◌≤◌, ◌+◌, ℕ, Option, Some, None, Bool, true, false, refl, ap, sym, subst, ◌∙◌, arith, ⊎_elim, inl, inr, if◌then◌else◌}
+use Rattle.std.proofs.Math.Path.{fun_ext}
+use Rattle.std.proofs.lemmas.Bool.{cases_eq, cases_Bool, eq-eqb, ne_eqb}
+use Rattle.kn_base.specs.declared.key.Key.{Key}
+use Rattle.kn_base.specs.declared.key.Key.TheVariants.{Number, Node, Meter}
+use Rattle.unix_model.specs.Tables.{at, with_at}
+use Rattle.domain.specs.Keys.{is_number, is_meter, node_in, word_in}
+use Rattle.domain.specs.Rules.{RootGood, RowsGood, NumberFits, NobodyIn, written}
+
+pub here_at : {X : Type 0} (f : ℕ → X) (n : ℕ) (x : X) → with_at f n x n ≡ x
+unfolding with_at
+here_at f n x = rw (eq-eqb n n refl) refl
+
+pub other_at : {X : Type 0} (f : ℕ → X) (n m : ℕ) (x : X) → m ≢ n → with_at f n x m ≡ f m
+unfolding with_at
+other_at f n m x apart = rw (ne_eqb m n apart) refl
+
+pub changed_at : {X : Type 0} (f g : ℕ → X) (n : ℕ) (x : X) → g n ≡ x → ((q : ℕ) → q ≢ n → g q ≡ f q) → g ≡ with_at f n x
+changed_at f g n x here there = fun_ext (λ q. ⊎_elim
+    (λ (e : q ≡ n). ap g e ∙ here ∙ sym (ap (with_at f n x) e ∙ here_at f n x))
+    (λ (d : q ≢ n). there q d ∙ sym (other_at f n q x d))
+    (cases_eq q n))
+
+-- what stands at a place after a key was written
+pub data At (rows : ℕ → ℕ → Key) (node place : ℕ) (key : Key) (m j : ℕ) : Type 0 where
+  there : m ≡ node → j ≡ place → written rows node place key m j ≡ key → At rows node place key m j
+  as_before : written rows node place key m j ≡ rows m j → At rows node place key m j
+
+pub at_place : (rows : ℕ → ℕ → Key) (node place : ℕ) (key : Key) (m j : ℕ) → At rows node place key m j
+unfolding at
+at_place rows node place key m j = ⊎_elim
+    (λ (e : m ≡ node).
+    let row : written rows node place key m ≡ with_at (rows node) place key = ap (written rows node place key) e ∙ here_at rows node (with_at (rows node) place key) in
+    ⊎_elim
+    (λ (f : j ≡ place). there e f (ap (λ (r : ℕ → Key). r j) row ∙ ap (with_at (rows node) place key) f ∙ here_at (rows node) place key))
+    (λ (f : j ≢ place). as_before (ap (λ (r : ℕ → Key). r j) row ∙ other_at (rows node) place j key f ∙ ap (λ k. rows k j) (sym e)))
+    (cases_eq j place))
+    (λ (e : m ≢ node). as_before (ap (λ (r : ℕ → Key). r j) (other_at rows node m (with_at (rows node) place key) e)))
+    (cases_eq m node)
+
+pub written_other : (rows : ℕ → ℕ → Key) (node place : ℕ) (key : Key) (m j : ℕ) → j ≢ place → written rows node place key m j ≡ rows m j
+written_other rows node place key m j apart = go (at_place rows node place key m j)
+  where
+    go : At rows node place key m j → written rows node place key m j ≡ rows m j
+    go (there a b e) = absurd (apart b)
+    go (as_before e) = e
+
+pub written_case : (rows : ℕ → ℕ → Key) (node place : ℕ) (key : Key) (P : Key → Type 0) (m j : ℕ) → (j ≡ place → P key) → P (rows m j) → P (written rows node place key m j)
+written_case rows node place key P m j here before = go (at_place rows node place key m j)
+  where
+    go : At rows node place key m j → P (written rows node place key m j)
+    go (there a b e) = subst P (sym e) (here b)
+    go (as_before e) = subst P (sym e) before
+
+-- a number is no root's Meter key, and names no node
+pub meter_no_number : (key : Key) → is_meter key ≡ true → is_number key ≡ true → ⊥
+meter_no_number (Meter slot) meter number = let no : false ≡ true = number in cc
+meter_no_number _ meter number = cc
+
+pub number_no_node : (key : Key) → is_number key ≡ true → node_in key ≡ None
+number_no_node (Number body) number = refl
+number_no_node _ number = cc
+
+-- no Node key names a root
+pub root_unnamed : (rows : ℕ → ℕ → Key) (root : ℕ) → RowsGood rows → is_meter (rows root 2) ≡ true → NobodyIn rows root
+root_unnamed rows root good meter a i named = meter_no_number (rows root 2) meter (good.plain a i root 2 named (omega arith))
+
+-- a number is written in a root
+pub rows_good_number : (rows : ℕ → ℕ → Key) (root place : ℕ) (key : Key) → RowsGood rows → is_meter (rows root 2) ≡ true → 6 ≤ place → NumberFits place key
+    → RowsGood (written rows root place key)
+rows_good_number rows root place key good meter low fits = record {
+  single = λ a i b j n h k. good.single a i b j n (was a i n h) (was b j n k);
+  plain = λ a i n j h below. written_case rows root place key (λ k. is_number k ≡ true) n j (λ e. fits.number) (good.plain a i n j (was a i n h) below);
+  roots = λ m h.
+      let root_good = good.roots m (sym (ap is_meter (written_other rows root place key m 2 (λ e. absurd (omega arith)))) ∙ h) in
+      record {
+        numbers = λ j above below. written_case rows root place key (λ k. is_number k ≡ true) m j (λ e. fits.number) (root_good.numbers j above below);
+        call_fits = written_case rows root place key (λ k. word_in k 0 < 256) m 9 (λ e. fits.call_fits (sym e)) root_good.call_fits;
+        request_fits = written_case rows root place key (λ k. word_in k 2 ≤ 4096) m 10 (λ e. fits.request_fits (sym e)) root_good.request_fits;
+        answer_fits = written_case rows root place key (λ k. word_in k 2 ≤ 4096) m 11 (λ e. fits.answer_fits (sym e)) root_good.answer_fits;
+      };
+}
+  where
+    was : (a i n : ℕ) → node_in (written rows root place key a i) ≡ Some n → node_in (rows a i) ≡ Some n
+    was a i n = written_case rows root place key (λ k. node_in k ≡ Some n → node_in (rows a i) ≡ Some n) a i
+        (λ e h. let no : None ≡ Some n = sym (number_no_node key fits.number) ∙ h in cc)
+        (λ h. h)

@@ -1,0 +1,107 @@
+-- Numbers that are written in the nodes of domains.
+use Rattle.std.proofs.Common.{◌≡◌, ◌≢◌, ◌<◌, ◌≤◌, ◌+◌, ◌*◌, ◌&&◌, ℕ, Option, Some, None, Bool, true, false, nat_lt, cond, List, ◌∷◌, length, refl, ap, sym, subst, ◌∙◌, arith, add-zero, if◌then◌else◌, ⊎_elim}
+use Rattle.std.proofs.Math.Path.{fun_ext}
+use Rattle.std.proofs.lemmas.Bool.{cases_Bool, cases_lt, lt-ltb}
+use Rattle.std.proofs.lemmas.List.{get_or_past}
+use Rattle.kn_base.specs.declared.key.Key.{Key}
+use Rattle.kn_base.specs.declared.key.Key.TheVariants.{Null, Number}
+use Rattle.kernel_tables.specs.declared.entry.NodeOwner.{NodeOwner}
+use Rattle.kernel_tables.specs.declared.entry.NodeOwner.TheVariants.{Domain, Tree, FileTree}
+use Rattle.kernel_tables.specs.declared.entry.Entry.{Entry}
+use Rattle.kernel_tables.specs.declared.entry.Entry.TheVariants.{Free, Taken, Fixed, Unspelled}
+use Rattle.kernel_tables.specs.Kernel.{Kernel}
+use Rattle.kernel_tables.specs.Rows.{entry_at, key_table, rows, of_domain, is_fixed, domain_rows, fixed_rows}
+use Rattle.space_bank.specs.FreeList.{is_free}
+use Rattle.space_bank.specs.Bank.{BankGood}
+use Rattle.space_bank.specs.Changes.{key_written, ExchangesKeys}
+use Rattle.space_bank.specs.Laws.{and_outside}
+use Rattle.space_bank.specs.Shares.{Outside, Shares, NamesNothing, key_names_page, key_names_node}
+use Rattle.space_bank.proofs.HandLaws.{nothing-in_hand}
+use Rattle.forest.specs.Objects.{NodeObject}
+use Rattle.kernel_forest.specs.Trees.{owner_of, tree_in, node_tree, forest_of, outside_trees}
+use Rattle.kernel_forest.specs.Moves.{PutsRow}
+use Rattle.kernel_forest.proofs.NoTree.{puts_row}
+use Rattle.domain.specs.Keys.{is_number, is_meter}
+use Rattle.domain.specs.Rules.{RowsGood, NumberFits, written}
+use Rattle.domain.specs.Sets.{WritesNumbers}
+
+-- a root is a node of a domain
+pub root_mine : (kernel : Kernel) (root : ℕ) → is_meter (domain_rows kernel root 2) ≡ true → of_domain (entry_at kernel.node_entries root) ≡ true
+unfolding rows
+root_mine kernel root meter = ⊎_elim
+    (λ (t : of_domain (entry_at kernel.node_entries root) ≡ true). t)
+    (λ (t : of_domain (entry_at kernel.node_entries root) ≡ false). let no : false ≡ true = rw t at meter in cc)
+    (cases_Bool (of_domain (entry_at kernel.node_entries root)))
+
+pub domain_used : (entry : Entry NodeOwner) → of_domain entry ≡ true → is_free entry ≡ false
+domain_used (Free next) mine = cc
+domain_used (Taken owner count) mine = refl
+domain_used Fixed mine = cc
+domain_used Unspelled mine = cc
+
+domain_none : (entry : Entry NodeOwner) → of_domain entry ≡ true → tree_in node_tree entry ≡ None
+domain_none (Free next) mine = refl
+domain_none (Taken Domain count) mine = refl
+domain_none (Taken Tree count) mine = cc
+domain_none (Taken FileTree count) mine = cc
+domain_none Fixed mine = refl
+domain_none Unspelled mine = refl
+
+domain_not_fixed : (entry : Entry NodeOwner) → of_domain entry ≡ true → is_fixed entry ≡ false
+domain_not_fixed (Free next) mine = refl
+domain_not_fixed (Taken owner count) mine = refl
+domain_not_fixed Fixed mine = cc
+domain_not_fixed Unspelled mine = refl
+
+pub domain_below : (kernel : Kernel) (node : ℕ) → BankGood kernel → of_domain (entry_at kernel.node_entries node) ≡ true → node < kernel.nodes
+domain_below kernel node good mine = ⊎_elim
+    (λ (t : node < kernel.nodes). t)
+    (λ (t : kernel.nodes ≤ node). ⊎_elim
+    (λ (u : node < length kernel.node_entries).
+    let no : false ≡ true = sym (ap of_domain (good.nodes.entries_good.unused node t u)) ∙ mine in cc)
+    (λ (u : length kernel.node_entries ≤ node).
+    let no : false ≡ true = sym (ap of_domain (get_or_past kernel.node_entries node Unspelled u)) ∙ mine in cc)
+    (cases_lt node (length kernel.node_entries)))
+    (cases_lt node kernel.nodes)
+
+unowned : (kernel : Kernel) (node : ℕ) → of_domain (entry_at kernel.node_entries node) ≡ true → (forest_of kernel).owner (NodeObject node) ≡ None
+unfolding owner_of
+unowned kernel node mine = domain_none (entry_at kernel.node_entries node) mine
+
+-- the key at a place of a row is the one that stands there
+pub row_key : (kernel : Kernel) (node place : ℕ) → of_domain (entry_at kernel.node_entries node) ≡ true → place < 16 → key_table kernel.keys (16 * node + place) ≡ domain_rows kernel node place
+unfolding rows
+row_key kernel node place mine low = rw (mine, lt-ltb place 16 low) refl
+
+-- a number names nothing
+number_outside : (outside : Outside) (key : Key) → is_number key ≡ true → and_outside outside key ≡ outside
+number_outside outside (Number body) number =
+    ap (λ p. let o : Outside = record { pages = p; nodes = λ id. outside.nodes id + 0 } in o) (fun_ext (λ id. add-zero (outside.pages id)))
+    ∙ ap (λ n. let o : Outside = record { pages = outside.pages; nodes = n } in o) (fun_ext (λ id. add-zero (outside.nodes id)))
+number_outside outside _ number = cc
+
+number_nothing : (key : Key) → is_number key ≡ true → NamesNothing (Some key)
+number_nothing (Number body) number = tt
+number_nothing _ number = cc
+
+-- a number in place of a number
+pub writes_number : (old new : Kernel) (node place : ℕ) (key : Key) → of_domain (entry_at old.node_entries node) ≡ true → place < 16
+    → is_number (domain_rows old node place) ≡ true → is_number key ≡ true → PutsRow old new node place key → WritesNumbers old new
+writes_number old new node place key mine low was number puts =
+    let before : is_number (key_table old.keys (16 * node + place)) ≡ true = ap is_number (row_key old node place mine low) ∙ was in
+    record {
+      rest = puts.state ∙ ap (λ k. let n : Kernel = record old { keys = k } in n) (sym (ap (λ (k : Kernel). k.keys) puts.state));
+      forest_now = puts.forest_now;
+      outside_now = λ outside.
+          ap (outside_trees new) (sym (number_outside outside (key_table old.keys (16 * node + place)) (ap is_number (row_key old node place mine low) ∙ was)))
+          ∙ puts.outside_now outside ∙ ap (outside_trees old) (number_outside outside key number);
+      fixed_now = puts.others_now is_fixed (domain_not_fixed (entry_at old.node_entries node) mine);
+      shares = λ outside hand counted.
+          (nothing-in_hand new outside hand (key_table old.keys (16 * node + place)) (number_nothing (key_table old.keys (16 * node + place)) (ap is_number (row_key old node place mine low) ∙ was))).0
+          (puts.shares outside hand ((nothing-in_hand old outside hand key (number_nothing key number)).1 counted));
+    }
+
+-- a number is written in a root
+pub number_put : (old new : Kernel) (root place : ℕ) (key : Key) → BankGood old → of_domain (entry_at old.node_entries root) ≡ true → place < 16
+    → new ≡ key_written old root place key → ExchangesKeys old new root place key → PutsRow old new root place key
+number_put old new root place key good mine low e exchanges = puts_row old new root place key good (domain_below old root good mine) (unowned old root mine) low e exchanges

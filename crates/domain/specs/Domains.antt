@@ -1,0 +1,139 @@
+-- The domains of processes, by the numbers of their roots. A domain has three nodes: its root, one with the words of its
+-- registers and one with those of its descriptors. A root is told by the Meter key in it.
+use Rattle.std.specs.Prelude.{ℕ, ◌-◌, ◌/◌, ◌%◌, ◌==◌, Bool, true, false, Option, Some, None, List, [], ◌∷◌, replicate, if◌then◌else◌}
+use Rattle.kn_base.specs.declared.key.Key.{Key}
+use Rattle.kernel_tables.specs.Kernel.{Kernel}
+use Rattle.kernel_tables.specs.Rows.{domain_rows, fixed_rows}
+use Rattle.unix_model.specs.declared.calls.Request.{Request}
+use Rattle.domain.specs.declared.types.State.{State}
+use Rattle.domain.specs.declared.types.State.TheVariants.{Available, Running, Waiting}
+use Rattle.domain.specs.declared.types.Phase.{Phase}
+use Rattle.domain.specs.declared.types.Phase.TheVariants.{Run, Asked, Sent, Done, Exiting, Zombie}
+use Rattle.domain.specs.declared.types.Answer.{Answer}
+use Rattle.domain.specs.Keys.{is_meter, meter_in, node_in, segment_in, page_in, word_in, count_in, words_in}
+
+-- the numbers of states and phases; any other number is read as the last one
+abbrev pub state_by : ℕ → State
+state_by number = if number == 0 then Available else if number == 1 then Running else Waiting
+
+abbrev pub state_number : State → ℕ
+state_number Available = 0
+state_number Running = 1
+state_number Waiting = 2
+
+abbrev pub phase_by : ℕ → Phase
+phase_by number =
+    if number == 0 then Run
+    else if number == 1 then Asked
+    else if number == 2 then Sent
+    else if number == 3 then Done
+    else if number == 4 then Exiting
+    else Zombie
+
+abbrev pub phase_number : Phase → ℕ
+phase_number Run = 0
+phase_number Asked = 1
+phase_number Sent = 2
+phase_number Done = 3
+phase_number Exiting = 4
+phase_number Zombie = 5
+
+-- the words of a node, three in each key; zeros where there is no node
+unfoldable pub node_words : (ℕ → Key) → ℕ → ℕ
+node_words row = λ n. word_in (row (n / 3)) (n % 3)
+
+abbrev pub words_of : (ℕ → ℕ → Key) → Option ℕ → ℕ → ℕ
+words_of rows None = λ n. 0
+words_of rows (Some node) = node_words (rows node)
+
+-- A word of the descriptor node is the number of an open description and 1, or 0 where the descriptor is closed.
+abbrev pub description_by : ℕ → Option ℕ
+description_by word = if word == 0 then None else Some (word - 1)
+
+-- What a domain is. `live` tells the roots of domains from all other nodes. `regs` are x0 to x31, and pc as word 32. The
+-- heads are the process's own id and its parent's, the break, and the word that a wait answers. `marks` tell whether the
+-- process is parked, and on what.
+pub record Domain : Type 0 where
+  pub live : Bool
+  pub slot : ℕ
+  pub space : Option ℕ
+  pub buffer : Option ℕ
+  pub regs : ℕ → ℕ
+  pub descriptors : ℕ → Option ℕ
+  pub phase : Phase
+  pub pid : ℕ
+  pub parent : ℕ
+  pub break_start : ℕ
+  pub break_end : ℕ
+  pub word : ℕ
+  pub request : Request
+  pub answer : Answer
+  pub marks : List ℕ
+
+abbrev pub no_domain : Domain
+no_domain = record {
+  live = false;
+  slot = 0;
+  space = None;
+  buffer = None;
+  regs = λ n. 0;
+  descriptors = λ n. None;
+  phase = Run;
+  pid = 0;
+  parent = 0;
+  break_start = 0;
+  break_end = 0;
+  word = 0;
+  request = record { call = 0; args = replicate 4 0; length = 0 };
+  answer = record { value = 0; at = 0; length = 0 };
+  marks = replicate 3 0;
+}
+
+-- the domain of a root with these keys, whose other two nodes have these words
+unfoldable pub full_domain : (ℕ → Key) → (ℕ → ℕ) → (ℕ → ℕ) → Domain
+full_domain row regs descriptors = record {
+  live = true;
+  slot = meter_in (row 2);
+  space = segment_in (row 0);
+  buffer = page_in (row 5);
+  regs = regs;
+  descriptors = λ n. description_by (descriptors n);
+  phase = phase_by (word_in (row 7) 2);
+  pid = word_in (row 7) 0;
+  parent = word_in (row 7) 1;
+  break_start = word_in (row 8) 0;
+  break_end = word_in (row 8) 1;
+  word = word_in (row 8) 2;
+  request = record {
+    call = word_in (row 9) 0;
+    args = word_in (row 9) 1 ∷ word_in (row 9) 2 ∷ word_in (row 10) 0 ∷ word_in (row 10) 1 ∷ [];
+    length = word_in (row 10) 2;
+  };
+  answer = record { value = word_in (row 11) 0; at = word_in (row 11) 1; length = word_in (row 11) 2 };
+  marks = words_in (row 12);
+}
+
+abbrev pub domain_by : (ℕ → Key) → (ℕ → ℕ) → (ℕ → ℕ) → Domain
+domain_by row regs descriptors = if is_meter (row 2) then full_domain row regs descriptors else no_domain
+
+-- the domain of each root, in the rows of keys
+unfoldable pub domain_at : (ℕ → ℕ → Key) → ℕ → Domain
+domain_at rows = λ root. domain_by (rows root) (words_of rows (node_in (rows root 3))) (words_of rows (node_in (rows root 4)))
+
+abbrev pub domains : Kernel → ℕ → Domain
+domains kernel = domain_at (domain_rows kernel)
+
+-- Whether a domain may be called, runs or waits, and how many of its calls were answered. Services have it too, whose
+-- roots are fixed nodes.
+pub record Life : Type 0 where
+  pub state : State
+  pub count : ℕ
+
+abbrev pub life_in : Key → Life
+life_in key = record { state = state_by (word_in key 0); count = count_in key }
+
+unfoldable pub lives_by : (ℕ → ℕ → Key) → (ℕ → ℕ → Key) → ℕ → Life
+lives_by rows fixed = λ root. life_in (if is_meter (rows root 2) then rows root 6 else fixed root 6)
+
+abbrev pub lives : Kernel → ℕ → Life
+lives kernel = lives_by (domain_rows kernel) (fixed_rows kernel)

@@ -1,0 +1,5 @@
+-- in reading order
+pub mod Keys
+pub mod Domains
+pub mod Rules
+pub mod Sets

@@ -1,0 +1,34 @@
+-- What holds of the rows of domains from call to call.
+use Rattle.std.specs.Prelude.{◌≡◌, ℕ, ◌<◌, ◌≤◌, true, Some}
+use Rattle.kn_base.specs.declared.key.Key.{Key}
+use Rattle.unix_model.specs.Tables.{at, with_at}
+use Rattle.domain.specs.Keys.{is_number, is_meter, node_in, word_in}
+
+-- Keys 6 to 12 of a root are numbers. The number of a call fits a byte, and no request and no answer brings more than a page.
+pub record RootGood (row : ℕ → Key) : Type 0 where
+  pub numbers : (place : ℕ) → 6 ≤ place → place ≤ 12 → is_number (row place) ≡ true
+  pub call_fits : word_in (row 9) 0 < 256
+  pub request_fits : word_in (row 10) 2 ≤ 4096
+  pub answer_fits : word_in (row 11) 2 ≤ 4096
+
+-- A Node key stands at one place only, and what it names holds numbers. So a root is named by none, and a key that is
+-- written in a root changes one domain.
+pub record RowsGood (rows : ℕ → ℕ → Key) : Type 0 where
+  pub single : (a i b j node : ℕ) → node_in (rows a i) ≡ Some node → node_in (rows b j) ≡ Some node → (a ≡ b) × (i ≡ j)
+  pub plain : (a i node j : ℕ) → node_in (rows a i) ≡ Some node → j < 11 → is_number (rows node j) ≡ true
+  pub roots : (root : ℕ) → is_meter (rows root 2) ≡ true → RootGood (rows root)
+
+-- no Node key names the node
+abbrev pub NobodyIn : (ℕ → ℕ → Key) → ℕ → Type 0
+NobodyIn rows node = (a i : ℕ) → node_in (rows a i) ≡ Some node → ⊥
+
+-- the rows with a key at a place
+abbrev pub written : (ℕ → ℕ → Key) → ℕ → ℕ → Key → ℕ → ℕ → Key
+written rows node place key = with_at rows node (with_at (at rows node) place key)
+
+-- The key may stand at a place of a root, of 6 to 12.
+pub record NumberFits (place : ℕ) (key : Key) : Type 0 where
+  pub number : is_number key ≡ true
+  pub call_fits : place ≡ 9 → word_in key 0 < 256
+  pub request_fits : place ≡ 10 → word_in key 2 ≤ 4096
+  pub answer_fits : place ≡ 11 → word_in key 2 ≤ 4096

@@ -1,0 +1,34 @@
+//! What a domain is made of.
+
+/// Whether a domain may be called, runs, or waits for the answer to its call.
+#[derive(Clone, Copy, Debug, PartialEq, Eq)]
+pub enum State {
+    Available,
+    Running,
+    Waiting,
+}
+
+/// How far a process is with its turn.
+#[derive(Clone, Copy, Debug, PartialEq, Eq)]
+pub enum Phase {
+    /// It executes instructions.
+    Run,
+    /// It made a system call, which nobody has taken up.
+    Asked,
+    /// Its request waits for a server.
+    Sent,
+    /// Its answer waits for the process.
+    Done,
+    /// It ends, and what it holds is given back.
+    Exiting,
+    /// It has ended, and waits for its parent.
+    Zombie,
+}
+
+/// The answer to a system call: the value that it returns, and how many bytes go to which address.
+#[derive(Clone, Copy, Debug, PartialEq, Eq)]
+pub struct Answer {
+    pub value: u32,
+    pub at: u32,
+    pub length: u16,
+}
