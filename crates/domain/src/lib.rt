@@ -6,7 +6,9 @@
 
 mod keys;
 mod readers;
+mod setters;
 mod types;
 
 pub use readers::{count_of, mark_words, phase_of, state_of};
+pub use setters::{set_mark_words, set_phase, set_state};
 pub use types::{Answer, Phase, State};
