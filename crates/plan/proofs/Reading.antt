@@ -1,5 +1,5 @@
 -- From the spans that were read one after another to those of the text.
-use Rattle.std.proofs.Common.{◌≡◌, ℕ, ◌+◌, ◌<◌, List, [], ◌∷◌, ◌++◌, length, append-nil, Option, Some, None, Result, Ok, Err, refl, sym, ap, ◌∙◌, append_assoc, arith}
+use Rattle.std.proofs.Common.{zero, suc, ◌≡◌, ℕ, ◌+◌, ◌<◌, List, [], ◌∷◌, ◌++◌, length, append-nil, Option, Some, None, Result, Ok, Err, refl, sym, ap, ◌∙◌, append_assoc, arith}
 use Rattle.std.proofs.lemmas.Bool.Decides.{nat_tests}
 use Rattle.unix_model.specs.Texts.{line_front, line_rest, lines_of}
 use Rattle.unix_model.proofs.TextLaws.{lines_of-first, lines_of-nothing}
@@ -8,7 +8,7 @@ use Rattle.plan.specs.declared.span.Span.{Span}
 use Rattle.plan.specs.declared.streams.PlanFault.{PlanFault}
 use Rattle.plan.specs.declared.streams.PlanFault.TheVariants.{BadPlan, ReadFault, NoMemory}
 use Rattle.plan.specs.Plans.{numbered_span, spans_then, spans_from, spans_of}
-use Rattle.plan.specs.Streams.{IsEnd, IsRefusedLine, TakesSpan, FailsSpan, IsAtLine, TakesPlan, FailsPlan}
+use Rattle.plan.specs.Streams.{IsEnd, IsRefusedLine, TakesSpan, FailsSpan, IsAtLine, TakesPlan, SaysFirst, FailsPlan}
 
 -- a line that is too long is refused
 long-refused : (number : ℕ) (line : List ℕ) → 1024 < length line → numbered_span number line ≡ None
@@ -82,4 +82,25 @@ read-fails old left first spans count (BadPlan line) so_far none at_line fails =
     let next = (rw none at fails) r.0 r.1 in
     rw at_line (r.2 ∙ ap (λ lines. spans_then spans (spans_from (count + 1) lines)) next.lines ∙ ap (spans_then spans) (from-refused (count + 1) (line_front r.0) (lines_of (line_rest r.0)) next.refused))
 read-fails old left first spans count ReadFault so_far none at_line fails = λ bytes told. tt
-read-fails old left first spans count NoMemory so_far none at_line fails = λ bytes told. tt
+read-fails old left first spans count NoMemory so_far none at_line fails = absurd at_line
+
+-- where lines were read, the first one says a span; where none was, the whole text is left
+abbrev pub FirstSaid : Option (List ℕ) → ℕ → Option (List ℕ) → Type 0
+FirstSaid old count left = (bytes : List ℕ) → old ≡ Some bytes → (0 < count → SaysFirst bytes) × (count ≡ 0 → left ≡ Some bytes)
+
+-- before the first line
+pub first-none : (old : Option (List ℕ)) (count : ℕ) → count ≡ 0 → FirstSaid old count old
+first-none old count begins = λ bytes told. (λ some. absurd (omega (arith, some, begins)), λ no. told)
+
+-- one line more
+pub first-more : (old left now : Option (List ℕ)) (first : List ℕ) (count : ℕ) (span : Span) → FirstSaid old count left → first ≡ [] → TakesSpan (count + 1) first left (Some span) now → FirstSaid old (count + 1) now
+first-more old left now first zero span said none takes = λ bytes told.
+    let next = (rw none at takes) bytes ((said bytes told).1 refl) in
+    (λ some. (span, next.says), λ no. absurd (omega (arith, no)))
+first-more old left now first (suc count) span said none takes = λ bytes told.
+    (λ some. (said bytes told).0 (omega arith), λ no. absurd (omega (arith, no)))
+
+-- host memory ran out behind it
+pub memory-out : (old left now : Option (List ℕ)) (first : List ℕ) (count : ℕ) (span : Span) → FirstSaid old count left → first ≡ [] → TakesSpan (count + 1) first left (Some span) now → FailsPlan old NoMemory
+memory-out old left now first count span said none takes = λ bytes told.
+    (first-more old left now first count span said none takes bytes told).0 (omega arith)

@@ -59,11 +59,16 @@ lines_told (Some span) = 1
 abbrev pub TakesPlan : Option (List ℕ) → List Span → Option (List ℕ) → Type 0
 TakesPlan old spans new = (bytes : List ℕ) → old ≡ Some bytes → (spans_of bytes ≡ Ok spans) × (new ≡ Some [])
 
--- what a fault tells of a text: the first line that is refused; nothing where a call failed or host memory ran out
+-- the first line of a text says a span
+abbrev pub SaysFirst : List ℕ → Type 0
+SaysFirst bytes = (span : Span) × (numbered_span 1 (line_front bytes) ≡ Some span)
+
+-- what a fault tells of a text: the first line that is refused; nothing where a call failed. Host memory is asked for only
+-- once a line has said a span
 abbrev pub TellsText : PlanFault → List ℕ → Type 0
 TellsText (BadPlan line) bytes = spans_of bytes ≡ Err line
 TellsText ReadFault bytes = Unit {0}
-TellsText NoMemory bytes = Unit {0}
+TellsText NoMemory bytes = SaysFirst bytes
 
 -- what it tells where the source's bytes are told
 abbrev pub FailsPlan : Option (List ℕ) → PlanFault → Type 0

@@ -1,6 +1,6 @@
 //! One line of a schedule.
 
-ghost use Rattle.std.specs.Prelude.{◌≡◌, ◌≤◌, ◌<◌, length, position, IfSome};
+ghost use Rattle.std.specs.Prelude.{◌≡◌, ◌^◌, ◌≤◌, ◌<◌, length, position, IfSome};
 ghost use Rattle.unix_model.specs.Texts as texts;
 ghost use Rattle.plan.specs.Plans as model;
 
@@ -60,8 +60,8 @@ fn first_space(line: &[u8]) -> Option<usize>
 
 // The span of a slot and a number of turns, where both are there.
 fn span_told(slot: Option<u64>, turns: Option<u64>) -> Option<Span>
-    requires slot { IfSome slot (λ n. n ≤ 63) }
-    requires turns { IfSome turns (λ n. n ≤ 1000000000) }
+    requires slot { IfSome slot (λ n. n < 2 ^ 8) }
+    requires turns { IfSome turns (λ n. n < 2 ^ 32) }
     ensures { result ≡ model.span_told slot turns }
 {
     match (slot, turns) {

@@ -71,7 +71,7 @@ fn refused(reader: &LineReader) -> PlanFault
 /// # Errors
 ///
 /// `BadPlan` exactly at the first line that is refused, as [`next_span`] says. `ReadFault` only where the source's count of
-/// faults rose. After a fault the source has lost what was read.
+/// faults rose. `NoMemory` only once a line has said a span. After a fault the source has lost what was read.
 pub fn read_plan<S: Source>(alloc: Global, from: &mut S) -> Result<Vec<Span>, PlanFault>
     ensures taken { IfOk result (λ spans. TakesPlan (S.left from.old) spans.items (S.left from.new)) }
     ensures fault { IfErr result (λ fault. FailsPlan (S.left from.old) fault) }

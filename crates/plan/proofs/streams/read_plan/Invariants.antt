@@ -1,11 +1,12 @@
 use Rattle.std.proofs.Common.{◌≡◌, ◌≤◌, ◌-◌, []}
 use Rattle.kn_text.specs.Lines.{pending, lines_begun}
-use Rattle.plan.proofs.Reading.{ReadsSoFar}
+use Rattle.plan.proofs.Reading.{ReadsSoFar, FirstSaid}
 use Rattle.plan.proofs.streams.read_plan.Given as goal
 
 abbrev pub invariant-reading : goal.invariant-reading
 invariant-reading g l = record {
   so_far : ReadsSoFar (g.S.Source.left l.fn.from) l.spans.items (lines_begun l.reader) (g.S.Source.left l.from);
+  first : FirstSaid (g.S.Source.left l.fn.from) (lines_begun l.reader) (g.S.Source.left l.from);
   pending : pending l.reader ≡ [];
   few : lines_begun l.reader ≤ 65536;
   counted : g.S.Source.faults l.fn.from ≤ g.S.Source.faults l.from;
