@@ -1,5 +1,5 @@
 -- Domains and their lives, while a number is written in a root.
-use Rattle.std.proofs.Common.{◌≡◌, ◌≢◌, ◌<◌, ◌≤◌, ℕ, Option, Some, None, Bool, true, false, List, [], ◌∷◌, refl, ap, sym, ◌∙◌, arith, ⊎_elim, if◌then◌else◌}
+use Rattle.std.proofs.Common.{◌≡◌, ◌≢◌, ◌≤◌, ℕ, Option, Some, None, true, false, List, [], ◌∷◌, refl, ap, sym, ◌∙◌, arith, ⊎_elim, if◌then◌else◌}
 use Rattle.std.proofs.Math.Path.{fun_ext}
 use Rattle.std.proofs.lemmas.Bool.{cases_Bool}
 use Rattle.kn_base.specs.declared.key.Key.{Key}
@@ -9,9 +9,9 @@ use Rattle.domain.specs.declared.types.Phase.{Phase}
 use Rattle.domain.specs.declared.types.Phase.TheVariants.{Run, Asked, Sent, Done, Exiting, Zombie}
 use Rattle.domain.specs.declared.types.Answer.{Answer}
 use Rattle.domain.specs.Keys.{is_meter, node_in, word_in, count_in, words_in}
-use Rattle.domain.specs.Domains.{Domain, no_domain, full_domain, domain_by, domain_at, words_of, node_words, Life, life_in, lives_by, state_by, phase_by, phase_number}
+use Rattle.domain.specs.Domains.{Domain, full_domain, domain_by, domain_at, words_of, node_words, Life, life_in, lives_by, state_by, phase_by, phase_number}
 use Rattle.domain.specs.Rules.{RowsGood, NobodyIn, written}
-use Rattle.domain.proofs.RowLaws.{here_at, other_at, changed_at, written_other, At, at_place, there, as_before, root_unnamed}
+use Rattle.domain.proofs.RowLaws.{here_at, other_at, changed_at, written_other, root_unnamed}
 
 -- the words that a Node key leads to, while another node changes
 words_other : (rows : ℕ → ℕ → Key) (n : ℕ) (row : ℕ → Key) (node : Option ℕ) → ((m : ℕ) → node ≡ Some m → m ≢ n) → words_of (with_at rows n row) node ≡ words_of rows node

@@ -1,12 +1,12 @@
 -- Rows of keys, while a key is written in one.
-use Rattle.std.proofs.Common.{◌≡◌, ◌≢◌, ◌<◌, ◌≤◌, ◌+◌, ℕ, Option, Some, None, Bool, true, false, refl, ap, sym, subst, ◌∙◌, arith, ⊎_elim, inl, inr, if◌then◌else◌}
+use Rattle.std.proofs.Common.{◌≡◌, ◌≢◌, ◌<◌, ◌≤◌, ℕ, Some, None, true, false, refl, ap, sym, subst, ◌∙◌, arith, ⊎_elim}
 use Rattle.std.proofs.Math.Path.{fun_ext}
-use Rattle.std.proofs.lemmas.Bool.{cases_eq, cases_Bool, eq-eqb, ne_eqb}
+use Rattle.std.proofs.lemmas.Bool.{cases_eq, eq-eqb, ne_eqb}
 use Rattle.kn_base.specs.declared.key.Key.{Key}
-use Rattle.kn_base.specs.declared.key.Key.TheVariants.{Number, Node, Meter}
+use Rattle.kn_base.specs.declared.key.Key.TheVariants.{Number, Meter}
 use Rattle.unix_model.specs.Tables.{at, with_at}
 use Rattle.domain.specs.Keys.{is_number, is_meter, node_in, word_in}
-use Rattle.domain.specs.Rules.{RootGood, RowsGood, NumberFits, NobodyIn, written}
+use Rattle.domain.specs.Rules.{RowsGood, NumberFits, NobodyIn, written}
 
 pub here_at : {X : Type 0} (f : ℕ → X) (n : ℕ) (x : X) → with_at f n x n ≡ x
 unfolding with_at

@@ -1,28 +1,27 @@
 -- Numbers that are written in the nodes of domains.
-use Rattle.std.proofs.Common.{◌≡◌, ◌≢◌, ◌<◌, ◌≤◌, ◌+◌, ◌*◌, ◌&&◌, ℕ, Option, Some, None, Bool, true, false, nat_lt, cond, List, ◌∷◌, length, refl, ap, sym, subst, ◌∙◌, arith, add-zero, if◌then◌else◌, ⊎_elim}
+use Rattle.std.proofs.Common.{◌≡◌, ◌<◌, ◌≤◌, ◌+◌, ◌*◌, ℕ, Some, None, true, false, length, refl, ap, sym, ◌∙◌, add-zero, ⊎_elim}
 use Rattle.std.proofs.Math.Path.{fun_ext}
 use Rattle.std.proofs.lemmas.Bool.{cases_Bool, cases_lt, lt-ltb}
 use Rattle.std.proofs.lemmas.List.{get_or_past}
 use Rattle.kn_base.specs.declared.key.Key.{Key}
-use Rattle.kn_base.specs.declared.key.Key.TheVariants.{Null, Number}
+use Rattle.kn_base.specs.declared.key.Key.TheVariants.{Number}
 use Rattle.kernel_tables.specs.declared.entry.NodeOwner.{NodeOwner}
 use Rattle.kernel_tables.specs.declared.entry.NodeOwner.TheVariants.{Domain, Tree, FileTree}
 use Rattle.kernel_tables.specs.declared.entry.Entry.{Entry}
 use Rattle.kernel_tables.specs.declared.entry.Entry.TheVariants.{Free, Taken, Fixed, Unspelled}
 use Rattle.kernel_tables.specs.Kernel.{Kernel}
-use Rattle.kernel_tables.specs.Rows.{entry_at, key_table, rows, of_domain, is_fixed, domain_rows, fixed_rows}
+use Rattle.kernel_tables.specs.Rows.{entry_at, key_table, rows, of_domain, is_fixed, domain_rows}
 use Rattle.space_bank.specs.FreeList.{is_free}
 use Rattle.space_bank.specs.Bank.{BankGood}
 use Rattle.space_bank.specs.Changes.{key_written, ExchangesKeys}
 use Rattle.space_bank.specs.Laws.{and_outside}
-use Rattle.space_bank.specs.Shares.{Outside, Shares, NamesNothing, key_names_page, key_names_node}
+use Rattle.space_bank.specs.Shares.{Outside, NamesNothing}
 use Rattle.space_bank.proofs.HandLaws.{nothing-in_hand}
 use Rattle.forest.specs.Objects.{NodeObject}
 use Rattle.kernel_forest.specs.Trees.{owner_of, tree_in, node_tree, forest_of, outside_trees}
 use Rattle.kernel_forest.specs.Moves.{PutsRow}
 use Rattle.kernel_forest.proofs.NoTree.{puts_row}
 use Rattle.domain.specs.Keys.{is_number, is_meter}
-use Rattle.domain.specs.Rules.{RowsGood, NumberFits, written}
 use Rattle.domain.specs.Sets.{WritesNumbers}
 
 -- a root is a node of a domain

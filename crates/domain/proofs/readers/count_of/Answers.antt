@@ -2,8 +2,8 @@ use Rattle.std.proofs.Common.{◌∙◌, ap, sym}
 use Rattle.kernel_tables.specs.Kernel.{kernel_of}
 use Rattle.kernel_tables.specs.Rows.{domain_rows, fixed_rows}
 use Rattle.domain.specs.Domains.{Life}
-use Rattle.domain.specs.Keys.{words_in, count_in}
-use Rattle.domain.proofs.DomainLaws.{live_meter, root_life, root_marks}
+use Rattle.domain.specs.Keys.{count_in}
+use Rattle.domain.proofs.DomainLaws.{live_meter, root_life}
 use Rattle.domain.proofs.readers.count_of.Goals as goal
 
 pub returns : goal.returns

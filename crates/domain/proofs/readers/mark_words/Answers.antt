@@ -1,9 +1,8 @@
 use Rattle.std.proofs.Common.{◌∙◌, ap, sym}
 use Rattle.kernel_tables.specs.Kernel.{kernel_of}
-use Rattle.kernel_tables.specs.Rows.{domain_rows, fixed_rows}
-use Rattle.domain.specs.Domains.{Life}
-use Rattle.domain.specs.Keys.{words_in, count_in}
-use Rattle.domain.proofs.DomainLaws.{live_meter, root_life, root_marks}
+use Rattle.kernel_tables.specs.Rows.{domain_rows}
+use Rattle.domain.specs.Keys.{words_in}
+use Rattle.domain.proofs.DomainLaws.{root_marks}
 use Rattle.domain.proofs.readers.mark_words.Goals as goal
 
 pub returns : goal.returns

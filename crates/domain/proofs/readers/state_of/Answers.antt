@@ -2,7 +2,7 @@ use Rattle.std.proofs.Common.{◌∙◌, ap, sym}
 use Rattle.kernel_tables.specs.Kernel.{kernel_of}
 use Rattle.kernel_tables.specs.Rows.{domain_rows, fixed_rows}
 use Rattle.domain.specs.Domains.{Life, state_by}
-use Rattle.domain.specs.Keys.{words_in, word_in}
+use Rattle.domain.specs.Keys.{word_in}
 use Rattle.domain.proofs.DomainLaws.{live_meter, root_life}
 use Rattle.domain.proofs.readers.state_of.Goals as goal
 

@@ -1,4 +1,4 @@
-use Rattle.std.proofs.Common.{◌∙◌, sym, true, ◌≤◌, ◌<◌, arith}
+use Rattle.std.proofs.Common.{sym, arith}
 use Rattle.kernel_tables.specs.Kernel.{kernel_of}
 use Rattle.kernel_tables.specs.Rows.{domain_rows, of_domain, entry_at}
 use Rattle.domain.specs.Rules.{RowsGood}

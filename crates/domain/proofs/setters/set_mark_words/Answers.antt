@@ -1,9 +1,7 @@
-use Rattle.std.proofs.Common.{◌∙◌, ap, sym, ℕ, ◌≡◌, ◌≤◌, refl, arith}
-use Rattle.kn_base.specs.declared.key.Key.{Key}
+use Rattle.std.proofs.Common.{◌∙◌, ap, arith}
 use Rattle.kernel_tables.specs.Kernel.{kernel_of}
 use Rattle.kernel_tables.specs.Rows.{domain_rows, fixed_rows}
-use Rattle.domain.specs.Domains.{domain_at, lives_by, phase_by, phase_number}
-use Rattle.domain.specs.Keys.{word_in}
+use Rattle.domain.specs.Domains.{domain_at, lives_by}
 use Rattle.domain.proofs.DomainLaws.{live_meter, lives_same, marks_set}
 use Rattle.domain.proofs.setters.set_mark_words.Goals as goal
 

@@ -1,5 +1,4 @@
-use Rattle.std.proofs.Common.{◌∙◌, ap, sym, ℕ, ◌≡◌, ◌≤◌, refl, arith}
-use Rattle.kn_base.specs.declared.key.Key.{Key}
+use Rattle.std.proofs.Common.{◌∙◌, ap, arith}
 use Rattle.kernel_tables.specs.Kernel.{kernel_of}
 use Rattle.kernel_tables.specs.Rows.{domain_rows, fixed_rows}
 use Rattle.domain.specs.Domains.{domain_at, lives_by, phase_by, phase_number}

@@ -1,10 +1,8 @@
-use Rattle.std.proofs.Common.{◌∙◌, ap, sym, ℕ, ◌≡◌, ◌≤◌, refl, arith}
-use Rattle.kn_base.specs.declared.key.Key.{Key}
+use Rattle.std.proofs.Common.{◌∙◌, ap, arith}
 use Rattle.kernel_tables.specs.Kernel.{kernel_of}
 use Rattle.kernel_tables.specs.Rows.{domain_rows, fixed_rows}
 use Rattle.domain.specs.Domains.{domain_at, lives_by, state_by}
 use Rattle.domain.specs.Rules.{written}
-use Rattle.domain.specs.Keys.{word_in}
 use Rattle.domain.proofs.DomainLaws.{live_meter, life_set, life_is_apart}
 use Rattle.domain.proofs.setters.set_state.Goals as goal
 
