@@ -1,6 +1,5 @@
 pub mod Loads
 pub mod Maps
-pub mod TwoPages
 pub mod Strings
 pub mod Sealed
 pub mod Written

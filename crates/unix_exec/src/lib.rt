@@ -5,7 +5,6 @@
 mod law;
 mod needed;
 mod pages;
-mod ranges;
 mod seal;
 mod stack;
 mod start;

@@ -13,10 +13,10 @@ ghost use Rattle.user_copy.specs.Writing.{PutsBytes};
 ghost use Rattle.seg_tree.specs.Blocks.{ChangesAtMost};
 ghost use Rattle.unix_exec.specs.Start.{AreStrings, HasStackPages, IsStackWritable};
 
-use super::ranges::put_range;
 use super::stack::start_bytes;
 use kn_base::Store;
 use seg_tree::Space;
+use user_copy::put_bytes;
 
 /// Puts the stack of a program with these strings, at most 16 of at most 4,096 bytes with the NUL after each, into a space whose
 /// stack may be written. The answer is the stack pointer. It takes at most eight nodes, and as many pages as `put_bytes` would.
@@ -39,6 +39,6 @@ pub fn put_start<T: Store>(store: &mut T, space: Space, count: u8, strings: &[u8
 {
     let bytes = start_bytes(count, strings);
     let pointer = 0x8000_0000 - bytes.len() as u32;
-    put_range(store, space, pointer, bytes.as_slice());
+    put_bytes(store, space, pointer, bytes.as_slice());
     pointer
 }

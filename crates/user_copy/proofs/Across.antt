@@ -69,7 +69,7 @@ touched_none address n none = rw (eq-eqb n 0 none) refl
 pub touched_one : (address n : ℕ) → 0 < n → address % 4096 + n ≤ 4096 → pages_touched address n ≡ 1
 touched_one address n some within = rw (ne_eqb n 0 (λ e. absurd (omega arith))) (omega arith)
 
-pub touched_two : (address n : ℕ) → n ≤ 4096 → 4096 < address % 4096 + n → pages_touched address n ≡ 2
+pub touched_two : (address n : ℕ) → address % 4096 + n ≤ 8192 → 4096 < address % 4096 + n → pages_touched address n ≡ 2
 touched_two address n few past = rw (ne_eqb n 0 (λ e. absurd (omega arith))) (omega arith)
 
 -- ---- room for pages
@@ -182,7 +182,7 @@ module _ (k0 k1 : Kernel) (space address : ℕ) (bytes : List ℕ) (is : IsSpace
 -- ---- two pieces
 
 module _ (k0 k1 k2 : Kernel) (space address next : ℕ) (first rest : List ℕ) (is : IsSpace (forest_of k0) [] space)
-    (begins : next ≡ address + length first) (full : address % 4096 + length first ≡ 4096) (some : 0 < length rest) (few : length first + length rest ≤ 4096)
+    (begins : next ≡ address + length first) (full : address % 4096 + length first ≡ 4096) (some : 0 < length rest) (few : address % 4096 + (length first + length rest) ≤ 8192)
     (a : PutsPiece k0 k1 space address first) (b : PutsPiece k1 k2 space next rest) where
   next_page : next / 4096 ≡ address / 4096 + 1
   next_page = omega arith

@@ -113,14 +113,14 @@ fn put_piece<T: Store>(store: &mut T, space: Space, at: u32, from: &[u8])
     }
 }
 
-/// Puts at most 4,096 bytes into a space from an address on, where all of the range may be written. It takes at most eight
-/// nodes, and as many pages as there are pages of the range that aren't own when they are come to in order.
+/// Puts bytes that lie in at most two pages into a space, where all of the range may be written. It takes at most eight nodes,
+/// and as many pages as there are pages of the range that aren't own when they are come to in order.
 pub fn put_bytes<T: Store>(store: &mut T, space: Space, at: u32, from: &[u8])
     requires good { BankGood (kernel_of (T.memory store.old)) }
     requires trees { (outside : Outside) × TreesGood (kernel_of (T.memory store.old)) outside [] }
     requires space { IsSpace (forest_of (kernel_of (T.memory store.old))) [] space.0.0 }
     requires zero { (kernel_of (T.memory store.old)).page_zero ≡ zero_page }
-    requires few { length from.now ≤ 4096 }
+    requires within { at % 4096 + length from.now ≤ 8192 }
     requires can_write { all_writable (space_memory (kernel_of (T.memory store.old)) space.0.0) at (length from.now) ≡ true }
     requires room { let old = kernel_of (T.memory store.old) in old.machine.nodes_taken + 23 ≤ old.nodes }
     requires page_room { let old = kernel_of (T.memory store.old) in (taken : ℕ) → NotOwn (forest_of old) space.0.0 (at / 4096) (pages_touched at (length from.now)) taken → old.machine.pages_taken + taken ≤ old.size }

@@ -46,7 +46,7 @@ pub put_piece-requires-else-from-in_first-clause-page_room :
 put_piece-requires-else-from-in_first-clause-page_room g c found mapped shared =
     let kernel = kernel_of (g.T.Store.memory c.args.store.now) in
     let long = c.if-from-in_first.false in
-    let few = c.requires.few in
+    let few = c.requires.within in
     let next = may_found kernel c.args.space.0.0 (c.args.at + (4096 - c.args.at % 4096))
     (each_may (space_memory kernel c.args.space.0.0) c.args.at (length c.args.from.now) (4096 - c.args.at % 4096) c.requires.can_write long) in
     let page : (c.args.at + (4096 - c.args.at % 4096)) / 4096 ≡ c.args.at / 4096 + 1 = omega arith in
@@ -67,7 +67,7 @@ pub put_piece-requires-else-from-in_first-2-clause-can_write :
     goal.put_piece-requires-else-from-in_first-2-clause-can_write
 put_piece-requires-else-from-in_first-2-clause-can_write g c =
     let long = c.if-from-in_first.false in
-    let few = c.requires.few in
+    let few = c.requires.within in
     let front = front_length c.args.from.now (4096 - c.args.at % 4096) (omega arith) in
     let back = back_length c.args.from.now (4096 - c.args.at % 4096) (omega arith) in
     second_may (kernel_of (g.T.Store.memory c.args.store.now)) (kernel_of (g.T.Store.memory c.put_piece-else-from-in_first.new.store)) c.args.space.0.0 c.args.at (c.args.at + (4096 - c.args.at % 4096))
@@ -84,7 +84,7 @@ put_piece-requires-else-from-in_first-2-clause-page_room g c again e shared =
     let mid = kernel_of (g.T.Store.memory c.put_piece-else-from-in_first.new.store) in
     let put = c.put_piece-else-from-in_first.ensures.put in
     let long = c.if-from-in_first.false in
-    let few = c.requires.few in
+    let few = c.requires.within in
     let next = may_found kernel c.args.space.0.0 (c.args.at + (4096 - c.args.at % 4096))
     (each_may (space_memory kernel c.args.space.0.0) c.args.at (length c.args.from.now) (4096 - c.args.at % 4096) c.requires.can_write long) in
     let page : (c.args.at + (4096 - c.args.at % 4096)) / 4096 ≡ c.args.at / 4096 + 1 = omega arith in
@@ -104,7 +104,7 @@ returns-else-from-in_first-clause-put g c =
     let mid = kernel_of (g.T.Store.memory c.put_piece-else-from-in_first.new.store) in
     let new = kernel_of (g.T.Store.memory c.put_piece-else-from-in_first-2.new.store) in
     let long = c.if-from-in_first.false in
-    let few = c.requires.few in
+    let few = c.requires.within in
     let front = front_length c.args.from.now (4096 - c.args.at % 4096) (omega arith) in
     let back = back_length c.args.from.now (4096 - c.args.at % 4096) (omega arith) in
     subst (PutsBytes old new c.args.space.0.0 c.args.at) (parts_are c.args.from.now (4096 - c.args.at % 4096) (omega arith))
