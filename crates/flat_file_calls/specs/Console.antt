@@ -1,11 +1,13 @@
 -- What reads and writes promise, of the console and of anything else.
-use Rattle.std.specs.Prelude.{◌≡◌, ℕ, ◌++◌, List, [], Option, Some}
+use Rattle.std.specs.Prelude.{◌≡◌, ℕ, ◌++◌, List, [], Option, Some, Result, Ok, Err}
 use Rattle.unix_model.specs.declared.calls.Turned.{Turned}
 use Rattle.unix_model.specs.Effect.{settled}
 use Rattle.unix_model.specs.FileCalls.{read_line, write_line}
 use Rattle.unix_model.specs.Process.{Process}
 use Rattle.unix_model.specs.State.{Unix}
 use Rattle.unix_model.specs.TurnRecord.{Turn}
+use Rattle.flat_file_calls.specs.declared.console.fault.ConsoleFault.{ConsoleFault}
+use Rattle.flat_file_calls.specs.declared.console.fault.ConsoleFault.TheVariants.{Failed, NoMemory}
 
 -- the turn of a read, by the console's input
 abbrev pub read_turn : Unix → ℕ → Process → (number address count : ℕ) → List ℕ → Turn
@@ -41,3 +43,9 @@ pub record TakesFront (input bytes : List ℕ) (now : Option (List ℕ)) : Type 
   pub front_is : front ++ behind ≡ bytes
   pub input_is : input ≡ front ++ left
   pub left_is : now ≡ Some left
+
+-- unless a call failed, a count of faults is the same
+abbrev pub CountsSame : {A : Type 0} → Type 0 → Result A ConsoleFault → Type 0
+CountsSame same (Ok answer) = same
+CountsSame same (Err NoMemory) = same
+CountsSame same (Err Failed) = Unit {0}

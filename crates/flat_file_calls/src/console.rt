@@ -10,7 +10,7 @@ ghost use Rattle.unix_model.specs.State.{with_phase, with_process};
 ghost use Rattle.unix_model.specs.Tables.{at};
 ghost use Rattle.flat_state.specs.ProcessView.{process_of};
 ghost use Rattle.flat_state.specs.StateView.{unix_of};
-ghost use Rattle.flat_file_calls.specs.Console.{TakesFront};
+ghost use Rattle.flat_file_calls.specs.Console.{CountsSame, TakesFront};
 
 mod fault;
 mod lines;
@@ -52,6 +52,7 @@ pub(crate) fn read_console<S: Source>(
     ensures unchanged { result ≡ Err ConsoleFault.Failed → unix_of state.new ≡ with_process (unix_of state.old) slot (process_of process) }
     ensures part { OnErr result ((bytes : List ℕ) → S.left input.old ≡ Some bytes → TakesFront bytes (line_taken count bytes) (S.left input.new)) }
     ensures failed { result ≡ Err ConsoleFault.Failed → Rose (S.faults input.old) (S.faults input.new) }
+    ensures same { CountsSame (S.faults input.new ≡ S.faults input.old) result }
     ensures counted { S.faults input.old ≤ S.faults input.new }
 {
     let line = match take_line(alloc, count, input) {
@@ -89,6 +90,7 @@ pub(crate) fn write_console<K: Sink>(
     ensures part { OnErr result (GrewByPrefix K.grew output.old written.now output.new) }
     ensures fault { IfErr result (λ fault. fault ≡ ConsoleFault.Failed) }
     ensures failed { OnErr result (Rose (K.faults output.old) (K.faults output.new)) }
+    ensures same { CountsSame (K.faults output.new ≡ K.faults output.old) result }
     ensures counted { K.faults output.old ≤ K.faults output.new }
 {
     match output.put(written) {

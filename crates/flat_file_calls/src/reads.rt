@@ -10,7 +10,7 @@ ghost use Rattle.flat_files.specs.OpenedView.{opened_of};
 ghost use Rattle.flat_state.specs.ProcessView.{process_of};
 ghost use Rattle.flat_state.specs.Settles.{Settles};
 ghost use Rattle.flat_state.specs.StateView.{unix_of};
-ghost use Rattle.flat_file_calls.specs.Console.{Reads, TakesFront, read_turn};
+ghost use Rattle.flat_file_calls.specs.Console.{CountsSame, Reads, TakesFront, read_turn};
 
 use crate::console::{ConsoleFault, is_console, read_console};
 use crate::offsets::set_offset;
@@ -25,8 +25,8 @@ use unix_model::{Errno, Turned};
 ///
 /// # Errors
 ///
-/// `Failed` only where the source's count of faults rose; the state is then as before, with the process in its slot. At any
-/// error the source has lost a front of what the read takes.
+/// `Failed` only where the source's count of faults rose; the state is then as before, with the process in its slot. At every
+/// other answer the count is as before. At any error the source has lost a front of what the read takes.
 pub fn read<S: Source>(
     state: &mut State,
     alloc: Global,
@@ -45,6 +45,7 @@ pub fn read<S: Source>(
     ensures part { OnErr result ((bytes : List ℕ) → S.left input.old ≡ Some bytes → TakesFront bytes (read_turn (with_process (unix_of state.old) slot (process_of process)) slot (process_of process) number address count bytes).taken (S.left input.new)) }
     ensures quiet { ((bytes : List ℕ) → (read_turn (with_process (unix_of state.old) slot (process_of process)) slot (process_of process) number address count bytes).taken ≡ []) → input.new ≡ input.old }
     ensures failed { result ≡ Err ConsoleFault.Failed → Rose (S.faults input.old) (S.faults input.new) }
+    ensures same { CountsSame (S.faults input.new ≡ S.faults input.old) result }
     ensures counted { S.faults input.old ≤ S.faults input.new }
 {
     let file = match state.opened(&process, number) {

@@ -12,7 +12,7 @@ ghost use Rattle.flat_files.specs.OpenedView.{opened_of};
 ghost use Rattle.flat_state.specs.ProcessView.{process_of};
 ghost use Rattle.flat_state.specs.Settles.{Settles};
 ghost use Rattle.flat_state.specs.StateView.{unix_of};
-ghost use Rattle.flat_file_calls.specs.Console.{Writes, write_turn};
+ghost use Rattle.flat_file_calls.specs.Console.{CountsSame, Writes, write_turn};
 
 use crate::console::{ConsoleFault, is_console, write_console};
 use crate::offsets::set_offset;
@@ -28,8 +28,8 @@ use unix_model::{Errno, Turned};
 ///
 /// # Errors
 ///
-/// `Failed` only where the sink's count of faults rose; the state is then as before, with the process in its slot. At any
-/// error the sink got a front of what the write puts.
+/// `Failed` only where the sink's count of faults rose; the state is then as before, with the process in its slot. At every
+/// other answer the count is as before. At any error the sink got a front of what the write puts.
 pub fn write<K: Sink>(
     state: &mut State,
     alloc: Global,
@@ -47,6 +47,7 @@ pub fn write<K: Sink>(
     ensures part { OnErr result ((bytes : List ℕ) → GrewByPrefix K.grew output.old (write_turn (with_process (unix_of state.old) slot (process_of process)) slot (process_of process) number written.now bytes).put output.new) }
     ensures quiet { (write_turn (with_process (unix_of state.old) slot (process_of process)) slot (process_of process) number written.now []).put ≡ [] → output.new ≡ output.old }
     ensures failed { result ≡ Err ConsoleFault.Failed → Rose (K.faults output.old) (K.faults output.new) }
+    ensures same { CountsSame (K.faults output.new ≡ K.faults output.old) result }
     ensures counted { K.faults output.old ≤ K.faults output.new }
 {
     let file = match state.opened(&process, number) {

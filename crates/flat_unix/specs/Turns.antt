@@ -1,5 +1,5 @@
 -- What turns of the plain machine and their steps promise.
-use Rattle.std.specs.Prelude.{◌≡◌, ◌≢◌, ℕ, List, []}
+use Rattle.std.specs.Prelude.{◌≡◌, ◌≢◌, ℕ, List, [], Result, Ok, Err}
 use Rattle.unix_model.specs.declared.calls.Turned.{Turned}
 use Rattle.unix_model.specs.Process.{Phase, SentCall, Sent}
 use Rattle.unix_model.specs.State.{Unix}
@@ -20,6 +20,15 @@ IsTurnFault read write WriteFault = write
 IsTurnFault read write NoMemory = Unit {0}
 IsTurnFault read write NoRoom = ⊥
 IsTurnFault read write (Elf fault) = ⊥
+
+-- the counts of faults that are the same: both, but for the one of the call that failed
+abbrev pub CountsSame : (read write : Type 0) → Result Turned FlatFault → Type 0
+CountsSame read write (Ok answer) = read × write
+CountsSame read write (Err ReadFault) = write
+CountsSame read write (Err WriteFault) = read
+CountsSame read write (Err NoMemory) = read × write
+CountsSame read write (Err NoRoom) = ⊥
+CountsSame read write (Err (Elf fault)) = ⊥
 
 -- a turn that takes nothing from the console and puts nothing there
 abbrev pub quiet_turn : Unix → Turned → (input : List ℕ) → Turn

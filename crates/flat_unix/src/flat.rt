@@ -43,7 +43,7 @@ impl Flat {
     ghost use Rattle.flat_file_calls.specs.Console.{TakesFront};
     ghost use Rattle.flat_unix.specs.FlatView.{unix_of};
     ghost use Rattle.flat_unix.specs.FreeTurns.{after_turns, has_nothing_to_do, ticked_times};
-    ghost use Rattle.flat_unix.specs.Turns.{IsTurnFault};
+    ghost use Rattle.flat_unix.specs.Turns.{CountsSame, IsTurnFault};
 
     /// The wait word of process slot 0; None exactly where that isn't a zombie.
     pub fn halted(&self) -> Option<WaitWord>
@@ -119,7 +119,7 @@ impl Flat {
     /// `ReadFault` only where the input's count of faults rose: the input then lost a front of what the turn takes.
     /// `WriteFault` only where the output's count of faults rose: the output then got a front of what the turn puts. The
     /// machine is as before at both, and no other call of the outside was made. `NoMemory` is free; the machine is then
-    /// given up. No other fault comes.
+    /// given up. No other fault comes. But for the call that failed, the counts of faults are as before.
     pub fn turn<S: Source, K: Sink>(
         &mut self,
         alloc: Global,
@@ -136,6 +136,7 @@ impl Flat {
         ensures takes_nothing { ((bytes : List ℕ) → (turned call_of (unix_of self.old) slot bytes).taken ≡ []) → input.new ≡ input.old }
         ensures puts_nothing { ((bytes : List ℕ) → (turned call_of (unix_of self.old) slot bytes).put ≡ []) → output.new ≡ output.old }
         ensures cause { IfErr result (IsTurnFault (Rose (S.faults input.old) (S.faults input.new)) (Rose (K.faults output.old) (K.faults output.new))) }
+        ensures same { CountsSame (S.faults input.new ≡ S.faults input.old) (K.faults output.new ≡ K.faults output.old) result }
         ensures input_counted { S.faults input.old ≤ S.faults input.new }
         ensures output_counted { K.faults output.old ≤ K.faults output.new }
     {

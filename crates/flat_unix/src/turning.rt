@@ -13,7 +13,7 @@ ghost use Rattle.flat_state.specs.PaceView.{pace_of};
 ghost use Rattle.flat_state.specs.declared.pace.Pace.TheVariants.{Other};
 ghost use Rattle.flat_state.specs.ProcessView.{process_of, sent_call_of};
 ghost use Rattle.flat_state.specs.StateView.{unix_of};
-ghost use Rattle.flat_unix.specs.Turns.{IsTurnFault};
+ghost use Rattle.flat_unix.specs.Turns.{CountsSame, IsTurnFault};
 
 use crate::flat::FlatFault;
 use crate::steps::quiet_step;
@@ -41,6 +41,7 @@ pub(crate) fn step<S: Source, K: Sink>(
     ensures takes_nothing { ((bytes : List ℕ) → (turned call_of (unix_of state.old) slot bytes).taken ≡ []) → input.new ≡ input.old }
     ensures puts_nothing { ((bytes : List ℕ) → (turned call_of (unix_of state.old) slot bytes).put ≡ []) → output.new ≡ output.old }
     ensures cause { IfErr result (IsTurnFault (Rose (S.faults input.old) (S.faults input.new)) (Rose (K.faults output.old) (K.faults output.new))) }
+    ensures same { CountsSame (S.faults input.new ≡ S.faults input.old) (K.faults output.new ≡ K.faults output.old) result }
     ensures input_counted { S.faults input.old ≤ S.faults input.new }
     ensures output_counted { K.faults output.old ≤ K.faults output.new }
 {
@@ -72,6 +73,7 @@ fn work<S: Source, K: Sink>(
     ensures takes_nothing { ((bytes : List ℕ) → (turned call_of (unix_of state.old) slot bytes).taken ≡ []) → input.new ≡ input.old }
     ensures puts_nothing { ((bytes : List ℕ) → (turned call_of (unix_of state.old) slot bytes).put ≡ []) → output.new ≡ output.old }
     ensures cause { IfErr result (IsTurnFault (Rose (S.faults input.old) (S.faults input.new)) (Rose (K.faults output.old) (K.faults output.new))) }
+    ensures same { CountsSame (S.faults input.new ≡ S.faults input.old) (K.faults output.new ≡ K.faults output.old) result }
     ensures input_counted { S.faults input.old ≤ S.faults input.new }
     ensures output_counted { K.faults output.old ≤ K.faults output.new }
 {
@@ -101,6 +103,7 @@ fn go_on<S: Source, K: Sink>(
     ensures takes_nothing { ((bytes : List ℕ) → (turned call_of (with_process (unix_of state.old) slot (process_of process)) slot bytes).taken ≡ []) → input.new ≡ input.old }
     ensures puts_nothing { ((bytes : List ℕ) → (turned call_of (with_process (unix_of state.old) slot (process_of process)) slot bytes).put ≡ []) → output.new ≡ output.old }
     ensures cause { IfErr result (IsTurnFault (Rose (S.faults input.old) (S.faults input.new)) (Rose (K.faults output.old) (K.faults output.new))) }
+    ensures same { CountsSame (S.faults input.new ≡ S.faults input.old) (K.faults output.new ≡ K.faults output.old) result }
     ensures input_counted { S.faults input.old ≤ S.faults input.new }
     ensures output_counted { K.faults output.old ≤ K.faults output.new }
 {
@@ -136,6 +139,7 @@ fn read_turn<S: Source>(
     ensures lost { OnErr result ((bytes : List ℕ) → S.left input.old ≡ Some bytes → TakesFront bytes (turned call_of (with_process (unix_of state.old) slot (process_of process)) slot bytes).taken (S.left input.new)) }
     ensures takes_nothing { ((bytes : List ℕ) → (turned call_of (with_process (unix_of state.old) slot (process_of process)) slot bytes).taken ≡ []) → input.new ≡ input.old }
     ensures cause { IfErr result (IsTurnFault (Rose (S.faults input.old) (S.faults input.new)) ⊥) }
+    ensures same { CountsSame (S.faults input.new ≡ S.faults input.old) (Unit {0}) result }
     ensures counted { S.faults input.old ≤ S.faults input.new }
 {
     let [number, address, count, _] = sent.arguments;
@@ -164,6 +168,7 @@ fn write_turn<K: Sink>(
     ensures part { OnErr result ((bytes : List ℕ) → GrewByPrefix K.grew output.old (turned call_of (with_process (unix_of state.old) slot (process_of process)) slot bytes).put output.new) }
     ensures puts_nothing { ((bytes : List ℕ) → (turned call_of (with_process (unix_of state.old) slot (process_of process)) slot bytes).put ≡ []) → output.new ≡ output.old }
     ensures cause { IfErr result (IsTurnFault ⊥ (Rose (K.faults output.old) (K.faults output.new))) }
+    ensures same { CountsSame (Unit {0}) (K.faults output.new ≡ K.faults output.old) result }
     ensures counted { K.faults output.old ≤ K.faults output.new }
 {
     match write(

@@ -5,3 +5,5 @@ pub mod Reading
 pub mod Calls
 pub mod InMemory
 pub mod Adapters
+pub mod FileSource
+pub mod Counting

@@ -1,5 +1,6 @@
 -- What reading a source up to a limit takes from it.
-use Rattle.std.specs.Prelude.{◌≡◌, ℕ, ◌+◌, ◌≤◌, List, [], Option, Some, length}
+use Rattle.std.specs.Prelude.{◌≡◌, ℕ, ◌+◌, ◌≤◌, List, [], Option, Some, Result, Ok, Err, Vec, length}
+use Rattle.std.specs.Global.{Global}
 use Rattle.kn_io.specs.Source.{Takes}
 use Rattle.kn_io.specs.declared.reading.ReadError.{ReadError}
 use Rattle.kn_io.specs.declared.reading.ReadError.TheVariants.{ReadFault, TooLong, NoMemory}
@@ -21,3 +22,10 @@ abbrev pub ReadFails : ReadError → ℕ → Option (List ℕ) → Option (List 
 ReadFails TooLong most old new = TakesCount old (most + 1) new
 ReadFails ReadFault most old new = TakesAtMost old most new
 ReadFails NoMemory most old new = TakesAtMost old most new
+
+-- Unless a call failed, the source's count of faults is the same.
+abbrev pub CountsSame : Type 0 → Result (Vec ℕ Global) ReadError → Type 0
+CountsSame same (Ok read) = same
+CountsSame same (Err TooLong) = same
+CountsSame same (Err NoMemory) = same
+CountsSame same (Err ReadFault) = Unit {0}

@@ -1,6 +1,6 @@
 //! Sources and sinks over the readers and writers of the standard library.
 ghost use Rattle.std.specs.Prelude.{◌≡◌, ◌∷◌, [], ◌≤◌, None, MatchOption, IfOk, OnOk, OnErr};
-ghost use Rattle.std.specs.Io.KnownBytes.{Appends, Consumes, Keeps, IsAtEnd};
+ghost use Rattle.std.specs.Io.KnownBytes.{Appends, Consumes, IsAtEnd};
 ghost use Rattle.kn_io.specs.Faults.{Rose};
 ghost use Rattle.kn_io.specs.Adapters.{reader_left, read_faults, written_to, write_faults, grew_untold, grew_untold-nothing, grew_untold-joined, grew_untold-told};
 ghost use Rattle.kn_io.specs.Sink.{GrewByPrefix};
@@ -58,7 +58,7 @@ impl<R: Read + Drop> Source for ReadSource<R> {
     }
 }
 
-/// A sink over a writer. What the writer keeps in a buffer is written by [`WriteSink::flush`].
+/// A sink over a writer, which should have no buffer of its own: nothing flushes it.
 #[derive(Drop)]
 pub struct WriteSink<W> {
     writer: W,
@@ -72,25 +72,6 @@ impl<W> WriteSink<W> {
         ensures faults { write_faults result ≡ 0 }
     {
         WriteSink { writer, faults: 0 }
-    }
-}
-
-impl<W: Write> WriteSink<W> {
-    /// Writes what the writer keeps in a buffer.
-    ///
-    /// # Errors
-    ///
-    /// `Failed` where the writer failed. The count of faults rose, up to 2^64 - 1.
-    pub fn flush(&mut self) -> Result<(), Failed>
-        ensures bytes { Keeps (W.contents (written_to self.old)) (W.contents (written_to self.new)) }
-        ensures same { OnOk result (write_faults self.new ≡ write_faults self.old) }
-        ensures counted { write_faults self.old ≤ write_faults self.new }
-        ensures failed { OnErr result (Rose (write_faults self.old) (write_faults self.new)) }
-    {
-        match self.writer.flush() {
-            Ok(()) => Ok(()),
-            Err(_) => Err(count_fault(&mut self.faults)),
-        }
     }
 }
 
@@ -130,7 +111,7 @@ impl<W: Write> Sink for WriteSink<W> {
 }
 
 // Counts a fault, up to the last value of a count.
-fn count_fault(faults: &mut u64) -> Failed
+pub(crate) fn count_fault(faults: &mut u64) -> Failed
     ensures kept { faults.old ≤ faults.new }
     ensures rose { Rose faults.old faults.new }
 {

@@ -74,6 +74,7 @@ impl Sink for MemSink {
     fn put(&mut self, bytes: &[u8]) -> Result<(), Failed>
         ensures grew { OnOk result (sink_grew self.old bytes.now self.new) }
         ensures part { OnErr result (GrewByPrefix sink_grew self.old bytes.now self.new) }
+        ensures same { OnOk result (sink_faults self.new ≡ sink_faults self.old) }
         ensures counted { sink_faults self.old ≤ sink_faults self.new }
         ensures failed { OnErr result (Rose (sink_faults self.old) (sink_faults self.new)) }
         ensures nothing { OnErr result (sink_bytes self.new ≡ sink_bytes self.old) }

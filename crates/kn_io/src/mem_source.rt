@@ -1,5 +1,5 @@
 //! Bytes in memory, with calls that fail as they are told to.
-ghost use Rattle.std.specs.Prelude.{◌≡◌, ◌≤◌, Some, OnErr};
+ghost use Rattle.std.specs.Prelude.{◌≡◌, ◌≤◌, Some, OnOk, OnErr};
 ghost use Rattle.std.specs.Result.{is_err};
 ghost use Rattle.kn_io.specs.Faults.{Rose};
 ghost use Rattle.kn_io.specs.Source.{Gives};
@@ -50,6 +50,7 @@ impl Source for MemSource {
     /// `Failed` exactly where the number of this call is listed.
     fn next(&mut self) -> Result<Option<u8>, Failed>
         ensures gives { Gives (Some (source_left self.old)) result (Some (source_left self.new)) }
+        ensures same { OnOk result (source_faults self.new ≡ source_faults self.old) }
         ensures counted { source_faults self.old ≤ source_faults self.new }
         ensures failed { OnErr result (Rose (source_faults self.old) (source_faults self.new)) }
         ensures fails { is_err result ≡ fails_next (source_calls self.old) }

@@ -1,7 +1,7 @@
 //! Reading a whole source.
 ghost use Rattle.std.specs.Prelude.{◌≡◌, ◌≤◌, ◌<◌, ◌^◌, IfOk, IfErr, vec_len};
 ghost use Rattle.kn_io.specs.Faults.{Rose};
-ghost use Rattle.kn_io.specs.Reading.{TakesAll, ReadFails};
+ghost use Rattle.kn_io.specs.Reading.{CountsSame, TakesAll, ReadFails};
 
 use crate::failures::Failed;
 use crate::source::Source;
@@ -23,12 +23,13 @@ pub enum ReadError {
 /// # Errors
 ///
 /// `ReadFault` only where the source's count of faults rose, and `TooLong` where it gave `most + 1`
-/// bytes. After any error the source has lost what was read.
+/// bytes. At every answer but `ReadFault` the count is as before. After any error the source has lost what was read.
 pub fn read_up_to<S: Source>(alloc: Global, from: &mut S, most: usize) -> Result<Vec<u8>, ReadError>
     requires { most < 2 ^ 32 }
     ensures whole { IfOk result (λ read. TakesAll (S.left from.old) read.items (S.left from.new)) }
     ensures bound { IfOk result (λ read. vec_len read ≤ most) }
     ensures error { IfErr result (λ error. ReadFails error most (S.left from.old) (S.left from.new)) }
+    ensures same { CountsSame (S.faults from.new ≡ S.faults from.old) result }
     ensures counted { S.faults from.old ≤ S.faults from.new }
     ensures failed { IfErr result (λ error. error ≡ ReadError.ReadFault → Rose (S.faults from.old) (S.faults from.new)) }
 {

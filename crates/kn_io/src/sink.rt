@@ -20,10 +20,12 @@ pub trait Sink {
     ///
     /// # Errors
     ///
-    /// `Failed` only where the count of faults rose. The sink then got a front of the bytes.
+    /// `Failed` only where the count of faults rose. The sink then got a front of the bytes. Where all were put the count is
+    /// as before.
     fn put(&mut self, bytes: &[u8]) -> Result<(), Failed>
         ensures grew { OnOk result (grew self.old bytes.now self.new) }
         ensures part { OnErr result (GrewByPrefix grew self.old bytes.now self.new) }
+        ensures same { OnOk result (faults self.new ≡ faults self.old) }
         ensures counted { faults self.old ≤ faults self.new }
         ensures failed { OnErr result (Rose (faults self.old) (faults self.new)) };
 

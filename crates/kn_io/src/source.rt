@@ -1,5 +1,5 @@
 //! Where bytes come from.
-ghost use Rattle.std.specs.Prelude.{ℕ, List, Option, OnErr, ◌≤◌};
+ghost use Rattle.std.specs.Prelude.{◌≡◌, ℕ, List, Option, OnOk, OnErr, ◌≤◌};
 ghost use Rattle.kn_io.specs.Faults.{Rose};
 ghost use Rattle.kn_io.specs.Source.{Gives};
 
@@ -17,9 +17,11 @@ pub trait Source {
     ///
     /// # Errors
     ///
-    /// `Failed` only where the count of faults rose. What is left is then as before.
+    /// `Failed` only where the count of faults rose. What is left is then as before. At every other answer the count is as
+    /// before.
     fn next(&mut self) -> Result<Option<u8>, Failed>
         ensures gives { Gives (left self.old) result (left self.new) }
+        ensures same { OnOk result (faults self.new ≡ faults self.old) }
         ensures counted { faults self.old ≤ faults self.new }
         ensures failed { OnErr result (Rose (faults self.old) (faults self.new)) };
 }

@@ -69,3 +69,9 @@ begun_by (Ok more) line = if more then 1 else 0
 begun_by (Err TooLong) line = 1
 begun_by (Err ReadFault) [] = 0
 begun_by (Err ReadFault) (byte ∷ line) = 1
+
+-- unless a call failed, the source's count of faults is the same
+abbrev pub CountsSame : {A : Type 0} → Type 0 → Result A LineFault → Type 0
+CountsSame same (Ok answer) = same
+CountsSame same (Err TooLong) = same
+CountsSame same (Err ReadFault) = Unit {0}

@@ -4,7 +4,7 @@ ghost use Rattle.std.specs.Prelude.{◌≡◌, ◌+◌, ◌-◌, ◌^◌, ◌<�
 ghost use Rattle.kn_io.specs.Faults.{Rose};
 ghost use Rattle.kn_io.specs.Source.{Gives};
 ghost use Rattle.unix_model.specs.Texts.{IsLine};
-ghost use Rattle.kn_text.specs.Lines.{pending, lines_begun, ahead, begun_by, TakesLine, FailsLine};
+ghost use Rattle.kn_text.specs.Lines.{pending, lines_begun, ahead, begun_by, CountsSame, TakesLine, FailsLine};
 
 use arrayvec::ArrayVec;
 use kn_io::{Failed, Source};
@@ -61,8 +61,8 @@ impl LineReader {
     /// # Errors
     ///
     /// `TooLong` exactly where 1,025 bytes come before a line feed, which are then taken; `into` has the first 1,024.
-    /// `ReadFault` only where the source's count of faults rose; `into` has the bytes of the line that came before. After a
-    /// fault the reader is not to be used any more: it would take what follows for a line.
+    /// `ReadFault` only where the source's count of faults rose; `into` has the bytes of the line that came before. At every
+    /// other answer the count is as before. After a fault the reader is not to be used any more: it would take what follows for a line.
     pub fn next_line<S: Source>(
         &mut self,
         from: &mut S,
@@ -74,6 +74,7 @@ impl LineReader {
         ensures unbroken { IsLine into.new.items }
         ensures pending { pending self.new ≡ [] }
         ensures line { lines_begun self.new ≡ lines_begun self.old + begun_by result into.new.items }
+        ensures same { CountsSame (S.faults from.new ≡ S.faults from.old) result }
         ensures counted { S.faults from.old ≤ S.faults from.new }
         ensures failed { IfErr result (λ fault. fault ≡ LineFault.ReadFault → Rose (S.faults from.old) (S.faults from.new)) }
     {
@@ -96,6 +97,7 @@ impl LineReader {
         ensures gives { Gives (ahead (pending self.old) (S.left from.old)) result (S.left from.new) }
         ensures pending { pending self.new ≡ [] }
         ensures line { lines_begun self.new ≡ lines_begun self.old }
+        ensures same { OnOk result (S.faults from.new ≡ S.faults from.old) }
         ensures counted { S.faults from.old ≤ S.faults from.new }
         ensures failed { OnErr result (Rose (S.faults from.old) (S.faults from.new)) }
     {
@@ -117,6 +119,7 @@ fn read_from<S: Source>(
     ensures fault { IfErr result (λ fault. FailsLine fault (first ∷ []) (S.left from.old) into.new.items (S.left from.new)) }
     ensures begun { IfErr result (λ fault. begun_by (Err fault) into.new.items ≡ 1) }
     ensures unbroken { IsLine into.new.items }
+    ensures same { CountsSame (S.faults from.new ≡ S.faults from.old) result }
     ensures counted { S.faults from.old ≤ S.faults from.new }
     ensures failed { IfErr result (λ fault. fault ≡ LineFault.ReadFault → Rose (S.faults from.old) (S.faults from.new)) }
 {

@@ -1,5 +1,5 @@
 -- What reading a schedule takes from a source, and what it leaves.
-use Rattle.std.specs.Prelude.{◌≡◌, ◌≢◌, ℕ, List, [], ◌∷◌, ◌++◌, Option, Some, None, Ok, Err}
+use Rattle.std.specs.Prelude.{◌≡◌, ◌≢◌, ℕ, List, [], ◌∷◌, ◌++◌, Option, Some, None, Result, Ok, Err}
 use Rattle.unix_model.specs.Texts.{line_front, line_rest, lines_of}
 use Rattle.plan.specs.declared.span.Span.{Span}
 use Rattle.plan.specs.declared.streams.PlanFault.{PlanFault}
@@ -73,3 +73,10 @@ TellsText NoMemory bytes = SaysFirst bytes
 -- what it tells where the source's bytes are told
 abbrev pub FailsPlan : Option (List ℕ) → PlanFault → Type 0
 FailsPlan old fault = (bytes : List ℕ) → old ≡ Some bytes → TellsText fault bytes
+
+-- unless a call failed, the source's count of faults is the same
+abbrev pub CountsSame : {A : Type 0} → Type 0 → Result A PlanFault → Type 0
+CountsSame same (Ok answer) = same
+CountsSame same (Err (BadPlan line)) = same
+CountsSame same (Err NoMemory) = same
+CountsSame same (Err ReadFault) = Unit {0}

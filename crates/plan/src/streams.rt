@@ -3,7 +3,7 @@
 ghost use Rattle.std.specs.Prelude.{◌≡◌, ◌+◌, ◌-◌, ◌^◌, ◌<◌, ◌≤◌, [], IfOk, IfErr, IfSome};
 ghost use Rattle.kn_io.specs.Faults.{Rose};
 ghost use Rattle.kn_text.specs.Lines.{pending, lines_begun};
-ghost use Rattle.plan.specs.Streams.{TakesSpan, FailsSpan, IsAtLine, TakesPlan, FailsPlan, lines_told};
+ghost use Rattle.plan.specs.Streams.{TakesSpan, FailsSpan, IsAtLine, TakesPlan, FailsPlan, CountsSame, lines_told};
 
 use crate::span::{Span, numbered_span};
 use arrayvec::ArrayVec;
@@ -29,8 +29,8 @@ pub enum PlanFault {
 /// # Errors
 ///
 /// `BadPlan` exactly where the line is refused: it is none of these, or it has more than 1,024 bytes, or it is the 65,537th
-/// or a later one. `ReadFault` only where the source's count of faults rose. After a fault the reader is not to be used any
-/// more.
+/// or a later one. `ReadFault` only where the source's count of faults rose; at every other answer it is as before. After a
+/// fault the reader is not to be used any more.
 pub fn next_span<S: Source>(
     reader: &mut LineReader,
     from: &mut S,
@@ -42,6 +42,7 @@ pub fn next_span<S: Source>(
     ensures pending { pending reader.new ≡ [] }
     ensures line { IfOk result (λ span. lines_begun reader.new ≡ lines_begun reader.old + lines_told span) }
     ensures few { IfOk result (λ span. IfSome span (λ told. lines_begun reader.new ≤ 65536)) }
+    ensures same { CountsSame (S.faults from.new ≡ S.faults from.old) result }
     ensures counted { S.faults from.old ≤ S.faults from.new }
     ensures failed { IfErr result (λ fault. fault ≡ PlanFault.ReadFault → Rose (S.faults from.old) (S.faults from.new)) }
 {
@@ -71,10 +72,12 @@ fn refused(reader: &LineReader) -> PlanFault
 /// # Errors
 ///
 /// `BadPlan` exactly at the first line that is refused, as [`next_span`] says. `ReadFault` only where the source's count of
-/// faults rose. `NoMemory` only once a line has said a span. After a fault the source has lost what was read.
+/// faults rose; at every other answer it is as before. `NoMemory` only once a line has said a span. After a fault the source
+/// has lost what was read.
 pub fn read_plan<S: Source>(alloc: Global, from: &mut S) -> Result<Vec<Span>, PlanFault>
     ensures taken { IfOk result (λ spans. TakesPlan (S.left from.old) spans.items (S.left from.new)) }
     ensures fault { IfErr result (λ fault. FailsPlan (S.left from.old) fault) }
+    ensures same { CountsSame (S.faults from.new ≡ S.faults from.old) result }
     ensures counted { S.faults from.old ≤ S.faults from.new }
     ensures failed { IfErr result (λ fault. fault ≡ PlanFault.ReadFault → Rose (S.faults from.old) (S.faults from.new)) }
 {

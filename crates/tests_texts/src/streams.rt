@@ -5,10 +5,11 @@ ghost use Rattle.kn_io.specs.Sink.{GrewByPrefix};
 ghost use Rattle.kn_io.specs.Source.{Takes};
 
 use kn_io::{
-    ByteSource, Failed, MemSink, MemSource, ReadError, ReadFault, ReadSource, Sink, Source,
-    WriteFault, WriteSink, read_up_to,
+    ByteSource, CountSink, Failed, FileSource, MemSink, MemSource, ReadError, ReadFault,
+    ReadSource, Sink, Source, WriteFault, WriteSink, read_up_to,
 };
 use std::alloc::Global;
+use std::fs::{self, Files};
 use std::io::{self, ErrorKind, Read, Write};
 use std::test::Fail;
 
@@ -229,11 +230,10 @@ fn a_reader_is_a_source(rt: HostRuntime) {
     assert!(rt; next(&mut unsteady) == Ok(Some(7)));
 }
 
-// Takes one byte a call, three in all, and can be flushed once.
+// Takes one byte a call, three in all.
 #[derive(Drop)]
 struct Narrow {
     bytes: Vec<u8>,
-    flushed: bool,
 }
 
 impl Write for Narrow {
@@ -251,10 +251,6 @@ impl Write for Narrow {
     }
 
     fn flush(&mut self) -> io::Result<()> {
-        if self.flushed {
-            return Err(io::Error::from(ErrorKind::BrokenPipe));
-        }
-        self.flushed = true;
         Ok(())
     }
 }
@@ -268,20 +264,13 @@ fn both<K: Sink>(to: &mut K, first: &[u8], second: &[u8]) -> Result<(), WriteFau
     put_both(to, first, second)
 }
 
-fn flush<W: Write>(sink: &mut WriteSink<W>) -> Result<(), Failed> {
-    sink.flush()
-}
-
 #[test]
 fn a_writer_is_a_sink(rt: HostRuntime) {
     let mut writer = Narrow {
         bytes: Vec::new(rt.alloc()),
-        flushed: false,
     };
     let mut sink = sink_over(&mut writer);
     assert!(rt; both(&mut sink, b"a", b"b") == Ok(()));
-    assert!(rt; flush(&mut sink) == Ok(()));
-    assert!(rt; flush(&mut sink) == Err(Failed));
     assert!(rt; put(&mut sink, b"cd") == Err(Failed));
     assert!(rt; writer.bytes.as_slice() == b"abc".as_slice());
 }
@@ -294,4 +283,59 @@ fn a_writer_that_takes_nothing_has_failed(rt: HostRuntime) {
     assert!(rt; put(&mut sink, b"") == Ok(()));
     assert!(rt; put(&mut sink, b"cd") == Err(Failed));
     assert!(rt; room == *b"abc");
+}
+
+#[test]
+fn bytes_are_counted_and_added_up(rt: HostRuntime) {
+    let mut sink = CountSink::new();
+    assert!(rt; (sink.count(), sink.sum()) == (0, 0));
+    for (piece, count, sum) in [
+        (b"".as_slice(), 0, 0),
+        (b"012", 3, 147),
+        (b"\n", 4, 157),
+        (&[255; 4096], 4100, 1_044_637),
+    ] {
+        assert!(rt; put(&mut sink, piece) == Ok(()));
+        assert!(rt; (sink.count(), sink.sum()) == (count, sum));
+    }
+    // 4,300 pieces more pass 2^32: 157 + 4,301 * 1,044,480 = 4,492,308,637.
+    let piece = [255; 4096];
+    for _ in 0..4300u32 {
+        assert!(rt; put(&mut sink, &piece) == Ok(()));
+    }
+    assert!(rt; (sink.count(), sink.sum()) == (17_616_900, 197_341_341));
+}
+
+fn source_at<F: Files>(files: F, path: String) -> FileSource<F> {
+    FileSource::at(files, path)
+}
+
+#[test]
+fn a_file_is_a_source(rt: HostRuntime) -> Result<(), Fail> {
+    let path = "kn_io_test_file";
+    let mut bytes = Vec::new(rt.alloc());
+    for number in 0..10_000u32 {
+        bytes.push((number % 251) as u8)?;
+    }
+    for length in [0usize, 1, 4095, 4096, 4097, 8192, 10_000] {
+        fs::write(&rt, path, &bytes[..length])?;
+        let mut source = source_at(rt.clone()?, String::from_str(rt.alloc(), path)?);
+        for byte in &bytes[..length] {
+            assert!(rt; next(&mut source) == Ok(Some(*byte)));
+        }
+        assert!(rt; next(&mut source) == Ok(None), "after {length} bytes");
+        assert!(rt; next(&mut source) == Ok(None));
+    }
+    fs::remove_file(&rt, path)?;
+    let mut absent = source_at(rt.clone()?, String::from_str(rt.alloc(), path)?);
+    assert!(rt; next(&mut absent) == Err(Failed));
+    fs::write(&rt, path, b"a")?;
+    assert!(rt;
+        next(&mut absent) == Ok(Some(b'a')),
+        "it is opened where it is there now"
+    );
+    fs::remove_file(&rt, path)?;
+    let mut folder = source_at(rt.clone()?, String::from_str(rt.alloc(), ".")?);
+    assert!(rt; next(&mut folder) == Err(Failed));
+    Ok(())
 }

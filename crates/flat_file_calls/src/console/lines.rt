@@ -3,7 +3,7 @@
 ghost use Rattle.std.specs.Prelude.{◌≡◌, ◌≤◌, ℕ, List, Some, Err, IfOk, OnErr, length};
 ghost use Rattle.kn_io.specs.Faults.{Rose};
 ghost use Rattle.unix_model.specs.FileCalls.{line_left, line_taken};
-ghost use Rattle.flat_file_calls.specs.Console.{TakesFront};
+ghost use Rattle.flat_file_calls.specs.Console.{CountsSame, TakesFront};
 
 use crate::console::fault::ConsoleFault;
 use kn_io::{Failed, Source};
@@ -24,6 +24,7 @@ pub(crate) fn take_line<S: Source>(
     ensures few { IfOk result (λ line. length line.items ≤ count) }
     ensures part { OnErr result ((bytes : List ℕ) → S.left from.old ≡ Some bytes → TakesFront bytes (line_taken count bytes) (S.left from.new)) }
     ensures failed { result ≡ Err ConsoleFault.Failed → Rose (S.faults from.old) (S.faults from.new) }
+    ensures same { CountsSame (S.faults from.new ≡ S.faults from.old) result }
     ensures counted { S.faults from.old ≤ S.faults from.new }
 {
     let mut line = Vec::new(alloc);

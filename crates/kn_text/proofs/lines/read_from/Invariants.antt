@@ -1,4 +1,4 @@
-use Rattle.std.proofs.Common.{◌≤◌, ◌-◌, [], ◌∷◌, ◌++◌}
+use Rattle.std.proofs.Common.{◌≡◌, ◌≤◌, ◌-◌, [], ◌∷◌, ◌++◌}
 use Rattle.arrayvec.specs.ArrayVec.{array_vec_len}
 use Rattle.kn_io.specs.Source.{Takes}
 use Rattle.unix_model.specs.Texts.{IsLine}
@@ -10,7 +10,7 @@ invariant-reading g l = record {
   so_far : Takes (ahead (l.first ∷ []) (g.S.Source.left l.fn.from)) (l.into.items ++ l.byte ∷ []) (g.S.Source.left l.from);
   unbroken : IsLine l.into.items;
   short : array_vec_len l.into ≤ 1024;
-  counted : g.S.Source.faults l.fn.from ≤ g.S.Source.faults l.from;
+  same : g.S.Source.faults l.from ≡ g.S.Source.faults l.fn.from;
 }
 
 abbrev pub decreases-reading : goal.decreases-reading

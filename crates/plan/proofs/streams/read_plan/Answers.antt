@@ -1,4 +1,4 @@
-use Rattle.std.proofs.Common.{◌≡◌, ◌+◌, [], ◌∷◌, ◌++◌, arith}
+use Rattle.std.proofs.Common.{◌≡◌, ◌+◌, [], ◌∷◌, ◌++◌, ◌∙◌}
 use Rattle.kn_text.specs.Lines.{pending, lines_begun}
 use Rattle.plan.proofs.Reading.{so-far-more, first-more, memory-out, read-whole, read-fails}
 use Rattle.plan.proofs.streams.read_plan.Goals as goal
@@ -14,7 +14,7 @@ reading-preserved g c =
       first = rw line first;
       pending = c.in-Ok-Some.ensures.pending;
       few = rw c.in-Ok-Some.field-0-is at c.in-Ok-Some.ensures.few;
-      counted = omega (arith, c.reading.invariant.counted, c.in-Ok-Some.ensures.counted);
+      same = c.in-Ok-Some.ensures.same ∙ c.reading.invariant.same;
     }
 
 pub returns-in-Ok-None-clause-taken : goal.returns-in-Ok-None-clause-taken

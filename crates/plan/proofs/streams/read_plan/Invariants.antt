@@ -9,7 +9,7 @@ invariant-reading g l = record {
   first : FirstSaid (g.S.Source.left l.fn.from) (lines_begun l.reader) (g.S.Source.left l.from);
   pending : pending l.reader ≡ [];
   few : lines_begun l.reader ≤ 65536;
-  counted : g.S.Source.faults l.fn.from ≤ g.S.Source.faults l.from;
+  same : g.S.Source.faults l.from ≡ g.S.Source.faults l.fn.from;
 }
 
 abbrev pub decreases-reading : goal.decreases-reading

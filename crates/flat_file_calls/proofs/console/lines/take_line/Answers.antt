@@ -1,4 +1,4 @@
-use Rattle.std.proofs.Common.{◌≡◌, arith, refl, sym, subst}
+use Rattle.std.proofs.Common.{◌≡◌, arith, refl, sym, subst, ◌∙◌}
 use Rattle.std.proofs.lemmas.Bool.Decides.{nat_tests}
 use Rattle.flat_file_calls.proofs.ConsoleLaws.{Begins, line-ends, line-goes, full-taken, full-left, at-end, begun-front, lost-front}
 use Rattle.flat_file_calls.proofs.console.lines.take_line.Goals as goal
@@ -43,7 +43,7 @@ taking-preserved g c =
     record {
       so_far = λ bytes told. line-goes c.args.count bytes c.taking.line.items c.taking.room c.in-Ok-Some.byte (g.S.Source.left c.taking.from) (g.S.Source.left c.next.new.self) c.taking-test.true (c.taking.invariant.so_far bytes told) takes c.push.new.self.items c.in-Ok.ensures.items c.if-byte-eq-LINE_FEED.false;
       few = omega (arith, c.in-Ok.ensures.len, c.taking.invariant.few, c.taking-test.true);
-      counted = omega (arith, c.taking.invariant.counted, c.in-Ok-Some.ensures.counted);
+      same = c.in-Ok-Some.ensures.same ∙ c.taking.invariant.same;
     }
 
 pub returns-clause-taken : goal.returns-clause-taken
