@@ -12,3 +12,5 @@ mod sources;
 mod statements;
 #[cfg(test)]
 mod streams;
+#[cfg(test)]
+mod workloads;
