@@ -191,6 +191,8 @@ module _ (k0 k1 k2 : Kernel) (fresh : NodeId) (to : Owner) (keeper : Key) (none 
         (λ e. let no : None ≡ Some (NodeObject (place_of fresh.0 15 / 16)) = sym none ∙ e in cc) filled (λ node e. let no : None ≡ Some (NodeObject node) = sym none ∙ e in cc));
     its_keeper = ap (λ (f : Forest). at f.keys (place_of fresh.0 15)) forest_is ∙ at-with_at (forest_of k0).keys (place_of fresh.0 15) keeper;
     owned = ap (λ (f : Forest). f.owner (NodeObject fresh.0)) forest_is ∙ with_object-here (forest_of k0).owner (NodeObject fresh.0) (Some to) ∙ sym is_tree;
+    unnamed = λ outside trees. (takes.free outside [] tt trees.shares).none_outside;
+    outside_now = (steps_trans k0 k1 k2 (with_taken (forest_of k0) (NodeObject fresh.0) to) (with_key (forest_of k1) (place_of fresh.0 15) keeper) 1 0 takes.steps puts.steps).outside_now;
     rows_now = (steps_trans k0 k1 k2 (with_taken (forest_of k0) (NodeObject fresh.0) to) (with_key (forest_of k1) (place_of fresh.0 15) keeper) 1 0 takes.steps puts.steps).rows_now;
     rest = (steps_trans k0 k1 k2 (with_taken (forest_of k0) (NodeObject fresh.0) to) (with_key (forest_of k1) (place_of fresh.0 15) keeper) 1 0 takes.steps puts.steps).rest;
     number = (steps_trans k0 k1 k2 (with_taken (forest_of k0) (NodeObject fresh.0) to) (with_key (forest_of k1) (place_of fresh.0 15) keeper) 1 0 takes.steps puts.steps).number;

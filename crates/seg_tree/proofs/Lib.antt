@@ -5,6 +5,7 @@ pub mod Copying
 pub mod Children
 pub mod Owning
 pub mod Levels
+pub mod OwnWays
 pub mod Walking
 pub mod PruneWays
 pub mod Mapping

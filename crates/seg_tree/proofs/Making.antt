@@ -20,7 +20,7 @@ use Rattle.forest.proofs.ReleaseLaws.{is_or_not}
 use Rattle.forest.proofs.OwnLaws.{owned_object}
 use Rattle.forest.proofs.OwnMaps.{page_way-parts, length-node_way, way_of_node}
 use Rattle.forest.proofs.CopyLaws.{counted_once, once, end_owned}
-use Rattle.forest.proofs.DescentLaws.{makes_way_own}
+use Rattle.forest.proofs.DescentLaws.{AtEnd, makes_way_own}
 use Rattle.forest.proofs.CallLaws.{own_way_is_own}
 use Rattle.forest.proofs.AloneLaws.{own_has_own_way}
 use Rattle.forest.proofs.EmptyLaws.{descent_leaves_last_empty, write_fills}
@@ -33,7 +33,8 @@ use Rattle.seg_tree.specs.Writes.{page_key, writable_mapping, leaf_copied, Copie
 use Rattle.seg_tree.proofs.Emptying.{unreleased_trans}
 use Rattle.seg_tree.proofs.Levels.{below_end}
 use Rattle.seg_tree.proofs.Mapping.{page_top, node_way-digits, map_here, made_pages}
-use Rattle.seg_tree.proofs.OwnPages.{IsMany, changed, is_own, changes, keys_now, page_owner_now, other_owner_now, space_before, space_after}
+use Rattle.seg_tree.proofs.OwnPages.{IsMany, changed, is_own, changes, ways_now, keys_now, page_owner_now, other_owner_now, space_before, space_after}
+use Rattle.seg_tree.proofs.OwnWays.{made_keeps_way}
 use Rattle.seg_tree.proofs.PageCopies.{in_use}
 use Rattle.seg_tree.proofs.Replacing.{mapped_key}
 
@@ -150,6 +151,18 @@ module _ (old mid : Kernel) (space page node found : ℕ) (to : Owner) (below : 
     same_map = mid_map ∙ sym with_same;
   }
 
+  pub ways_mid : (other : ℕ) → OwnWay (forest_of old) space (node_way other) → OwnWay (forest_of mid) space (node_way other)
+  ways_mid other other_own =
+      let start : AtEnd (forest_of old) (outside_trees old outside) [] space to [] =
+      record { held = trees.held; is_space = is_space; space_owner = owner; is_way = tt; own = tt } in
+      made_keeps_way (outside_trees old outside) [] space to d.made start way (omega (arith, long)) (page_top page below) (node_way other) (way_of_node other) other_own
+
+  pub none_mid : OwnWay (forest_of old) space (node_way page) → mid.machine.nodes_taken ≡ old.machine.nodes_taken
+  none_mid own =
+      let none = (made.unchanged (subst (OwnWay (forest_of old) space) (node_way-digits page) own)).0 in
+      let number = d.number in
+      omega arith
+
   -- the page is counted once
   module _ (good : BankGood mid) (page_owner : PageOwner) (real : found ≢ 0) (single : (forest_of mid).count (PageObject found) ≡ 1) where
     whole : OwnWay (forest_of mid) space (page_way page)
@@ -215,7 +228,9 @@ module _ (old mid : Kernel) (space page node found : ℕ) (to : Owner) (below : 
         rest = unreleased old mid d.rest;
         kept = λ own. (refl, d.same (unchanged old mid space page node found to below is_space owner mapped known trees d own).0);
         copied = λ no. absurd (no (own_before old mid space page node found to below is_space owner mapped known trees d good page_owner real single));
+        ways = ways_mid old mid space page node found to below is_space owner mapped known trees d;
         most = let long = digits_four page in omega (arith, long);
+        none = none_mid old mid space page node found to below is_space owner mapped known trees d;
       }
 
   -- the page was not own
@@ -316,7 +331,14 @@ module _ (old mid : Kernel) (space page node found : ℕ) (to : Owner) (below : 
             owned = owned ∙ sym tree;
             number = c.takes.pages ∙ ap (λ (k : Kernel). k.machine.pages_taken + 1) d.rest;
           };
+          ways = λ other own.
+              subst (λ g. OwnWay g space (node_way other)) (sym c.takes.forest_now)
+              (ways_now (forest_of mid) (outside_trees mid known) space page node fresh to here.trees.held here.is_space here.owner below here.above here.ends f real is_many other
+              (ways_mid old mid space page node found to below is_space owner mapped known trees d other own));
           most = let long = digits_four page in omega (arith, long);
+          none = λ own.
+              let none = none_mid old mid space page node found to below is_space owner mapped known trees d own in
+              omega arith;
         }
 
 -- what the test tells

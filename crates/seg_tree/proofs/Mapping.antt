@@ -15,7 +15,7 @@ use Rattle.forest.specs.Forest.{Forest, Held, IsSpace, FitsUnder, EndsAt, OwnWay
 use Rattle.forest.specs.Descent.{MadeOwn, IsMadeOwn, root, kept, copied}
 use Rattle.forest.specs.Calls.{ChangesMap}
 use Rattle.forest.proofs.CallLaws.{call_changes_map}
-use Rattle.forest.proofs.DescentLaws.{changes_one_page, own_kept}
+use Rattle.forest.proofs.DescentLaws.{AtEnd, changes_one_page, own_kept}
 use Rattle.forest.specs.Release.{Release}
 use Rattle.forest.specs.Objects.{PageObject, with_object}
 use Rattle.kernel_forest.specs.Releases.{Releasing, Lets}
@@ -32,6 +32,7 @@ use Rattle.seg_tree.proofs.Copying.{rest_trans}
 use Rattle.seg_tree.proofs.Children.{fits_tree}
 use Rattle.seg_tree.proofs.PruneWays.{leaf_written}
 use Rattle.seg_tree.proofs.Levels.{Begins, under_way, below_end}
+use Rattle.seg_tree.proofs.OwnWays.{made_keeps_way}
 use Rattle.forest.proofs.DescentLaws.{makes_way_own}
 use Rattle.forest.proofs.ThinLaws.{held_nothing}
 use Rattle.forest.proofs.EmptyLaws.{descent_leaves_last_empty, write_fills}
@@ -193,6 +194,23 @@ module _ (old mid : Kernel) (outside : Outside) (space page node : ℕ) (to : Ow
     put_own = subst (λ f. OwnWay f space (node_way page)) (sym puts.steps.forest_now)
         (own_kept (forest_of mid) space node (page % 16) (node_way page) key mid_end (omega arith) (node_way page) (way_of_node page) (omega arith) mid_way)
 
+    put_ways : (other : ℕ) → OwnWay (forest_of old) space (node_way other) → OwnWay (forest_of put) space (node_way other)
+    put_ways other own =
+        let four = length-node_way page in
+        let four_other = length-node_way other in
+        let start : AtEnd (forest_of old) (outside_trees old outside) (key ∷ []) space to [] =
+        record { held = starts.trees.held; is_space = starts.is_space; space_owner = owner; is_way = tt; own = tt } in
+        subst (λ f. OwnWay f space (node_way other)) (sym puts.steps.forest_now)
+        (own_kept (forest_of mid) space node (page % 16) (node_way page) key mid_end (omega arith) (node_way other) (way_of_node other) (omega arith)
+        (made_keeps_way (outside_trees old outside) (key ∷ []) space to d.made start way (omega (arith, long)) (page_top page below) (node_way other) (way_of_node other) own))
+
+    put_none : OwnWay (forest_of old) space (node_way page) → put.machine.nodes_taken ≡ old.machine.nodes_taken
+    put_none own =
+        let none = (made.unchanged (subst (OwnWay (forest_of old) space) (node_way-digits page) own)).0 in
+        let a = puts.steps.number in
+        let b = d.number in
+        omega arith
+
     put_ends : EndsAt (forest_of put).keys space (node_way page) (NodeObject node)
     put_ends = subst (λ (f : Forest). EndsAt f.keys space (node_way page) (NodeObject node)) (sym puts.steps.forest_now)
         (ap named (short_way (forest_of mid).keys space node (page % 16) (node_way page) key mid_end (omega arith) space mid_end.free (node_way page) (way_of_node page) (omega arith)) ∙ ends_way)
@@ -236,6 +254,7 @@ puts_leaf old mid put space page node to key fits below is_space owner owners kn
       place = place_of node (page % 16);
       stands = ap (λ (f : Forest). at f.keys (place_of node (page % 16))) puts.steps.forest_now ∙ at-with_at (forest_of mid).keys (place_of node (page % 16)) key;
       own = put_own old mid known space page node to key fits below known_trees is_space owner owners d put puts;
+      ways = put_ways old mid known space page node to key fits below known_trees is_space owner owners d put puts;
       node = node;
       ends = put_ends old mid known space page node to key fits below known_trees is_space owner owners d put puts;
       but = put_but old mid known space page node to key fits below known_trees is_space owner owners d put puts;
@@ -245,4 +264,5 @@ puts_leaf old mid put space page node to key fits below is_space owner owners kn
       pages_now = λ number. ap (λ (f : Forest). f.owner (PageObject number)) puts.steps.forest_now ∙ made_pages d.made number;
       rest = rest_trans old mid put d.rest puts.steps.rest;
       most = put_most old mid known space page node to key fits below known_trees is_space owner owners d put puts;
+      none = put_none old mid known space page node to key fits below known_trees is_space owner owners d put puts;
     }

@@ -17,7 +17,8 @@ use Rattle.forest.proofs.HeldLaws.{other_object, take_keeps_held}
 use Rattle.forest.proofs.ReleaseLaws.{is_or_not, some_not_none}
 use Rattle.forest.proofs.OwnLaws.{owned_object}
 use Rattle.forest.proofs.CopyLaws.{counted_once, once}
-use Rattle.forest.proofs.DescentLaws.{changes_one_page, leaf_names_page}
+use Rattle.forest.proofs.DescentLaws.{changes_one_page, leaf_names_page, own_kept}
+use Rattle.forest.proofs.OwnMaps.{own_end, way_of_node, length-node_way}
 use Rattle.forest.proofs.CallLaws.{call_changes_map, own_way_is_own}
 use Rattle.seg_tree.specs.Writes.{page_key, writable_mapping, leaf_copied}
 use Rattle.seg_tree.proofs.Mapping.{space_leaf}
@@ -64,7 +65,7 @@ less_once forest (Some object) many key one =
     let single : forest.count object ≡ 1 = ap forest.count (sym t) ∙ o.counted in
     absurd (omega arith))) ∙ o.counted)
 
-own_less : (forest : Forest) (there : Option Object) → IsMany forest there → (space : ℕ) (way : List ℕ) → OwnWay forest space way → OwnWay (counted_less forest there) space way
+pub own_less : (forest : Forest) (there : Option Object) → IsMany forest there → (space : ℕ) (way : List ℕ) → OwnWay forest space way → OwnWay (counted_less forest there) space way
 own_less forest there many space [] own = tt
 own_less forest there many space (digit ∷ way) own = (
   subst (λ (keys : ℕ → Key). CountedOnce (counted_less forest there) (key_along keys (space_key space) (digit ∷ way))) (sym (less_keys forest there))
@@ -152,6 +153,16 @@ module _ (forest : Forest) (outside : Object → ℕ) (space page node fresh : �
       maps = λ other is apart. changed.1.others.maps other (taken_space other is) apart;
     };
   }
+
+  -- each own way stays own
+  pub ways_now : (other : ℕ) → OwnWay forest space (node_way other) → OwnWay with_page space (node_way other)
+  ways_now other other_own =
+      let end = own_end forest outside [] space node (node_way page) held.sound held.exact is_space (way_of_node page) own ends in
+      let four = length-node_way page in
+      let four_other = length-node_way other in
+      own_less (with_key (with_taken forest (PageObject fresh) to) (place_of node (page % 16)) (page_key fresh)) (named (at forest.keys (place_of node (page % 16)))) many_now space (node_way other)
+      (own_kept (with_taken forest (PageObject fresh) to) space node (page % 16) (node_way page) (page_key fresh) end (omega arith) (node_way other) (way_of_node other) (omega arith)
+      (own_taken forest (PageObject fresh) to space (node_way other) other_own))
 
   node_owner : (n : ℕ) → (with_page).owner (NodeObject n) ≡ forest.owner (NodeObject n)
   node_owner n =

@@ -11,11 +11,11 @@ use Rattle.space_bank.specs.Shares.{Outside}
 use Rattle.unix_model.specs.Tables.{at, with_at}
 use Rattle.forest.specs.Objects.{Object, PageObject, NodeObject, Owner, named, names}
 use Rattle.forest.specs.Walks.{place_of, key_along, space_key, map_of, mapping_of, Mapping}
-use Rattle.forest.specs.Forest.{Forest, Held, IsSpace, NoneEmpty, node_way}
+use Rattle.forest.specs.Forest.{Forest, Held, IsSpace, OwnWay, NoneEmpty, node_way}
 use Rattle.forest.specs.Calls.{ChangesMap}
 use Rattle.forest.proofs.HeldLaws.{raise_keeps_held}
 use Rattle.forest.proofs.OwnLaws.{owned_object, place_within}
-use Rattle.forest.proofs.OwnMaps.{way_of_node}
+use Rattle.forest.proofs.OwnMaps.{way_of_node, length-node_way}
 use Rattle.forest.proofs.ReachLaws.{way_owner}
 use Rattle.forest.proofs.WalkLaws.{step}
 use Rattle.kernel_forest.specs.Trees.{forest_of, outside_trees, TreesGood}
@@ -27,7 +27,9 @@ use Rattle.forest.specs.Release.{ReleaseStep, nothing as nothing_step, shared as
 use Rattle.forest.proofs.CountLaws.{counted_one, true-names}
 use Rattle.forest.proofs.ExactLaws.{bit, in_hand-cons}
 use Rattle.seg_tree.specs.Writes.{may_write}
-use Rattle.seg_tree.proofs.OwnPages.{IsMany, less_owner}
+use Rattle.seg_tree.proofs.OwnPages.{IsMany, less_owner, own_less}
+use Rattle.seg_tree.proofs.OwnWays.{counts_keep_way, raised_nodes}
+use Rattle.seg_tree.specs.Ways.{KeepsWays}
 use Rattle.kernel_forest.specs.Releases.{Releasing, Lets}
 use Rattle.forest.proofs.ReleaseLaws.{release_leaves_none_empty, front_owned}
 use Rattle.kernel_forest.proofs.GivingNodes.{unreleased, same_bytes}
@@ -143,6 +145,14 @@ module _ (k0 : Kernel) (space page : ℕ) (writable : Bool) (id : PageId) (good 
       not_in_hand = is.not_in_hand;
     }
 
+    -- own ways stay own while the page is counted more
+    pub raised_way : (outside : Outside) → TreesGood k0 outside [] → IsSpace (forest_of k0) [] space → KeepsWays k0 k1 space
+    raised_way outside trees is other own =
+        let four = length-node_way other in
+        counts_keep_way (forest_of k0) (forest_of k1) [] space trees.held.sound trees.held.rooted is keys_same
+        (λ node. ap (λ (f : Forest). f.count (NodeObject node)) raises.steps.forest_now ∙ raised_nodes (forest_of k0) id false node)
+        (node_way other) (way_of_node other) (omega arith) own
+
     pub raised_owners : (outside : Outside) → TreesGood k0 outside [] → (object : Object) → named (Page id false) ≡ Some object → (forest_of k1).owner object ≡ (forest_of k1).owner (NodeObject space)
     raised_owners outside trees object h =
         let here = mapped_at outside trees object h in
@@ -179,15 +189,19 @@ module _ (k0 : Kernel) (space page : ℕ) (writable : Bool) (id : PageId) (good 
           subst (λ o. 2 ≤ (forest_of k2).count o) is (protected_many t))
           (cases_eq id.0 0)
 
-      pub protected : (k3 : Kernel) → LowersKey k2 k3 (Page id writable)
+      pub protected : (k3 : Kernel) → IsSpace (forest_of k0) [] space → LowersKey k2 k3 (Page id writable)
           → Remaps k0 k3 space 4 (with_at (map_of (forest_of k0).keys space) page (Some (record { writable = false; page = id.0 })))
-      protected k3 lowers = record {
+      protected k3 is_space lowers = record {
         changes = λ outside trees.
             let done = put.after outside (raised_trees k1 outside trees raises) k3 lets in
             (done.0, subst (λ (keys : ℕ → Key). ChangesMap (forest_of k0) (forest_of k3) space (with_at (map_of keys space) page (Some (record { writable = false; page = id.0 })))) keys_same (back done.1));
         filled = λ filled.
             let now = put.filled (λ e. cc) (subst NoneEmpty (sym keys_same) filled) in
             release_leaves_none_empty (forest_of k2) (forest_of k3) (outside_trees k2 known) (was ∷ []) [] hand.held (lets.lets known [] hand).1 now;
+        ways = λ other own.
+            subst (λ f. OwnWay f space (node_way other)) (sym lowers.steps.forest_now)
+            (own_less (forest_of k2) (named (Page id writable)) many_was space (node_way other)
+            (put.ways other (raised_way known known_trees is_space other own)));
         outside_now = λ outside. lowers.steps.outside_now outside ∙ put.outside_now outside ∙ raises.steps.outside_now outside;
         rows_now = λ mine apart. lowers.steps.rows_now mine apart ∙ put.rows_now mine apart ∙ raises.steps.rows_now mine apart;
         rest = rest_trans k0 k2 k3 (rest_trans k0 k1 k2 raises.steps.rest put.rest) lowers.steps.rest;

@@ -221,6 +221,8 @@ module _ (k0 k1 : Kernel) (space fresh : NodeId) (to : Owner) (known : Outside) 
         ∙ with_object-here (forest_of k0).owner (NodeObject fresh.0) (Some to) ∙ sym owner;
     its_keeper = ap (λ (f : Forest). at f.keys (place_of fresh.0 15)) forest_is ∙ all.done 15 (omega arith);
     filled = λ none. subst (λ (f : Forest). NoneEmpty f.keys) (sym forest_is) (filled_now none);
+    unnamed = λ outside trees. (takes.free outside [] tt trees.shares).none_outside;
+    outside_now = steps.outside_now;
     rows_now = steps.rows_now;
     rest = steps.rest;
     number = steps.number;

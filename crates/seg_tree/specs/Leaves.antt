@@ -8,11 +8,12 @@ use Rattle.space_bank.specs.Shares.{Outside}
 use Rattle.unix_model.specs.Tables.{at, with_at}
 use Rattle.forest.specs.Objects.{Object, PageObject, NodeObject}
 use Rattle.forest.specs.Walks.{map_of, mapping_of}
-use Rattle.forest.specs.Forest.{FitsUnder, NoneEmpty, NoneEmptyBut, OwnWay, EndsAt, node_way}
+use Rattle.forest.specs.Forest.{FitsUnder, NoneEmpty, NoneEmptyBut, EndsAt, node_way}
 use Rattle.forest.specs.Calls.{ChangesMap}
 use Rattle.kernel_forest.specs.Trees.{forest_of, outside_trees, TreesGood}
 use Rattle.kernel_forest.specs.Moves.{KeepsRest}
 use Rattle.kernel_forest.specs.Releases.{Releasing, Lets}
+use Rattle.seg_tree.specs.Ways.{HasOwnWay, KeepsWays}
 
 -- A key was in hand and stands at a page number now, on a way that is the space's own, and the one that stood there is in hand.
 -- Once that is released, the map of the space has changed there, and nothing else.
@@ -25,7 +26,8 @@ pub record PutsLeaf (old new : Kernel) (space page : ℕ) (key was : Key) : Type
   pub filled : key ≢ Null → NoneEmpty (forest_of old).keys → NoneEmpty (forest_of new).keys
   pub place : ℕ
   pub stands : at (forest_of new).keys place ≡ key
-  pub own : OwnWay (forest_of new) space (node_way page)
+  pub own : HasOwnWay new space page
+  pub ways : KeepsWays old new space
   pub node : ℕ
   pub ends : EndsAt (forest_of new).keys space (node_way page) (NodeObject node)
   pub but : NoneEmpty (forest_of old).keys → NoneEmptyBut (forest_of new).keys node
@@ -35,3 +37,4 @@ pub record PutsLeaf (old new : Kernel) (space page : ℕ) (key was : Key) : Type
   pub pages_now : (number : ℕ) → (forest_of new).owner (PageObject number) ≡ (forest_of old).owner (PageObject number)
   pub rest : KeepsRest old new
   pub most : new.machine.nodes_taken ≤ old.machine.nodes_taken + 4
+  pub none : HasOwnWay old space page → new.machine.nodes_taken ≡ old.machine.nodes_taken

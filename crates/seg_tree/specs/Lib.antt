@@ -1,5 +1,6 @@
 -- in reading order
 pub mod Steps
+pub mod Ways
 pub mod Leaves
 pub mod Releases
 pub mod Blocks

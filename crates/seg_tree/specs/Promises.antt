@@ -14,12 +14,15 @@ use Rattle.kernel_forest.specs.Trees.{forest_of, outside_trees, TreesGood}
 use Rattle.kernel_forest.specs.Moves.{KeepsRest}
 use Rattle.kernel_forest.specs.Releases.{KeepsUnreleased, KeepsBytes}
 use Rattle.seg_tree.specs.declared.walk.Found.{Found}
+use Rattle.seg_tree.specs.Ways.{KeepsWays}
 
 -- The map of a space has changed, and that of no other one. What names trees from outside, and the keys of all other nodes,
--- are as before, and at most so many nodes were taken. No node below a root is empty where none was.
+-- are as before, and at most so many nodes were taken. No node below a root is empty where none was, and each way in the space
+-- that was its own is so still.
 pub record Remaps (old new : Kernel) (space few : ℕ) (map : ℕ → Option Mapping) : Type 0 where
   pub changes : (outside : Outside) → TreesGood old outside [] → TreesGood new outside [] × ChangesMap (forest_of old) (forest_of new) space map
   pub filled : NoneEmpty (forest_of old).keys → NoneEmpty (forest_of new).keys
+  pub ways : KeepsWays old new space
   pub outside_now : (outside : Outside) → outside_trees new outside ≡ outside_trees old outside
   pub rows_now : KeepsRows old new
   pub rest : KeepsRest old new
@@ -37,12 +40,15 @@ pub record Replaces (old new : Kernel) (space few : ℕ) (map : ℕ → Option M
       → bank_page new number ≡ bank_page old number
   pub most : new.machine.nodes_taken ≤ old.machine.nodes_taken + few
 
--- A space was added, of this owner, with this map and with this key for its keeper. Its one key is outside.
+-- A space was added, of this owner, with this map and with this key for its keeper. Nothing named its root before, and its one key
+-- is outside.
 pub record Adds (old new : Kernel) (space : ℕ) (owner : Option Owner) (keeper : Key) (map : ℕ → Option Mapping) : Type 0 where
   pub adds : (outside : Outside) → TreesGood old outside [] → TreesGood new (and_outside outside (space_key space)) [] × AddsSpace (forest_of old) (forest_of new) space map
   pub owned : (forest_of new).owner (NodeObject space) ≡ owner
   pub its_keeper : at (forest_of new).keys (place_of space 15) ≡ keeper
   pub filled : NoneEmpty (forest_of old).keys → NoneEmpty (forest_of new).keys
+  pub unnamed : (outside : Outside) → TreesGood old outside [] → outside_trees old outside (NodeObject space) ≡ 0
+  pub outside_now : (outside : Outside) → outside_trees new outside ≡ outside_trees old outside
   pub rows_now : KeepsRows old new
   pub rest : KeepsRest old new
   pub number : new.machine.nodes_taken ≡ old.machine.nodes_taken + 1

@@ -15,6 +15,7 @@ use Rattle.forest.specs.Changes.{with_taken, with_key, lowered, IsFree}
 use Rattle.forest.specs.Calls.{ChangesMap, IsOwn}
 use Rattle.kernel_forest.specs.Trees.{forest_of, outside_trees, page_tree, AreTreeKeys, TreesGood}
 use Rattle.kernel_forest.specs.Releases.{KeepsUnreleased}
+use Rattle.seg_tree.specs.Ways.{HasOwnWay, KeepsWays}
 
 -- whether what is mapped may be written
 abbrev pub may_write : Option Mapping → Bool
@@ -70,7 +71,8 @@ pub record TakesOne (old new : Kernel) (page : ℕ) (owner : PageOwner) : Type 0
 
 -- A page that may be written at a page number of a space was made its own: `result` is mapped there, with the bytes of the page
 -- before, and no other space and no other page number reaches it. Nothing has changed where the page was own, and else one page
--- was taken. All other pages have the bytes that they had.
+-- was taken. All other pages have the bytes that they had. Each way in the space that was its own is so still, and no node was
+-- taken where the way to the page was.
 pub record Owns (old new : Kernel) (space page result : ℕ) (owner : PageOwner) : Type 0 where
   pub found : Mapping
   pub mapped : map_of (forest_of old).keys space page ≡ Some found
@@ -88,4 +90,6 @@ pub record Owns (old new : Kernel) (space page result : ℕ) (owner : PageOwner)
   pub rest : KeepsUnreleased old new
   pub kept : IsOwn (forest_of old) space page found → (result ≡ found.page) × (new ≡ old)
   pub copied : (IsOwn (forest_of old) space page found → ⊥) → TakesOne old new result owner
+  pub ways : KeepsWays old new space
   pub most : new.machine.nodes_taken ≤ old.machine.nodes_taken + 4
+  pub none : HasOwnWay old space page → new.machine.nodes_taken ≡ old.machine.nodes_taken

@@ -13,6 +13,7 @@ ghost use Rattle.forest.specs.Forest.{IsSpace};
 ghost use Rattle.kernel_forest.specs.Trees.{forest_of, node_tree, TreesGood, IsTreeKey};
 ghost use Rattle.seg_tree.specs.Blocks.{ChangesAtMost};
 ghost use Rattle.seg_tree.specs.Promises.{Remaps, Adds};
+ghost use Rattle.seg_tree.specs.Ways.{HasOwnWay};
 
 use super::leaf::{put_leaf, tree_owner};
 use super::steps::{copy_keys, lower_leaf, put_key, raise_key, take_tree_node};
@@ -24,7 +25,8 @@ use kn_base::{Key, NodeId, PageId, Store};
 #[derive(Clone, Copy, Debug, PartialEq, Eq)]
 pub struct Space(pub NodeId);
 
-/// Maps the page of zeros at a page number below 2^19 where nothing is mapped. It takes at most four nodes and no page.
+/// Maps the page of zeros at a page number below 2^19 where nothing is mapped, on a way that is the space's own then. It takes at
+/// most four nodes, none where the way was own already, and no page.
 pub fn map_zero<T: Store>(store: &mut T, space: Space, page: u32, writable: bool)
     requires good { BankGood (kernel_of (T.memory store.old)) }
     requires trees { (outside : Outside) × TreesGood (kernel_of (T.memory store.old)) outside [] }
@@ -33,6 +35,8 @@ pub fn map_zero<T: Store>(store: &mut T, space: Space, page: u32, writable: bool
     requires unmapped { map_of (forest_of (kernel_of (T.memory store.old))).keys space.0.0 page ≡ None }
     requires room { let old = kernel_of (T.memory store.old) in old.machine.nodes_taken + 19 ≤ old.nodes }
     ensures mapped { let old = kernel_of (T.memory store.old) in Remaps old (kernel_of (T.memory store.new)) space.0.0 4 (with_at (map_of (forest_of old).keys space.0.0) page (Some (record { writable = writable; page = 0 }))) }
+    ensures own_way { HasOwnWay (kernel_of (T.memory store.new)) space.0.0 page }
+    ensures no_node { let old = kernel_of (T.memory store.old) in HasOwnWay old space.0.0 page → (kernel_of (T.memory store.new)).machine.nodes_taken ≡ old.machine.nodes_taken }
     ensures good { BankGood (kernel_of (T.memory store.new)) }
     ensures blocks { ChangesAtMost (T.blocks store.old) (T.blocks store.new) 85 }
     ensures keeps { T.keeps store.old store.new }
@@ -44,8 +48,8 @@ pub fn map_zero<T: Store>(store: &mut T, space: Space, page: u32, writable: bool
     put_leaf(store, space.0, page, key);
 }
 
-/// Makes a page that is mapped at a page number below 2^19 read-only there. It takes at most four nodes, and it takes and gives
-/// back no page.
+/// Makes a page that is mapped at a page number below 2^19 read-only there. It takes at most four nodes, none where the way to the
+/// page is the space's own, and it takes and gives back no page.
 pub fn protect<T: Store>(store: &mut T, space: Space, page: u32)
     requires good { BankGood (kernel_of (T.memory store.old)) }
     requires trees { (outside : Outside) × TreesGood (kernel_of (T.memory store.old)) outside [] }
@@ -54,6 +58,7 @@ pub fn protect<T: Store>(store: &mut T, space: Space, page: u32)
     requires mapped { IsSome (map_of (forest_of (kernel_of (T.memory store.old))).keys space.0.0 page) }
     requires room { let old = kernel_of (T.memory store.old) in old.machine.nodes_taken + 19 ≤ old.nodes }
     ensures protected { let old = kernel_of (T.memory store.old) in let map = map_of (forest_of old).keys space.0.0 in (found : Mapping) → map page ≡ Some found → Remaps old (kernel_of (T.memory store.new)) space.0.0 4 (with_at map page (Some (record found { writable = false }))) }
+    ensures no_node { let old = kernel_of (T.memory store.old) in HasOwnWay old space.0.0 page → (kernel_of (T.memory store.new)).machine.nodes_taken ≡ old.machine.nodes_taken }
     ensures good { BankGood (kernel_of (T.memory store.new)) }
     ensures blocks { ChangesAtMost (T.blocks store.old) (T.blocks store.new) 87 }
     ensures keeps { T.keeps store.old store.new }

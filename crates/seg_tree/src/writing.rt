@@ -132,7 +132,8 @@ fn own_page<T: Store>(
 
 /// The page that may be written at a page number below 2^19, after it was made this space's own: this space alone reaches it,
 /// at this page number alone, and it has the bytes that the page there had. None comes exactly where nothing is mapped or the
-/// page is read-only. It takes a page of the owner exactly where the page was not own, and at most four nodes.
+/// page is read-only. It takes a page of the owner exactly where the page was not own, and at most four nodes, none where the way to
+/// the page was the space's own.
 pub fn writable<T: Store>(
     store: &mut T,
     space: Space,

@@ -1,5 +1,5 @@
 -- The pages of a plan are mapped one after another.
-use Rattle.std.proofs.Common.{◌≡◌, ◌<◌, ◌≤◌, ◌+◌, ◌*◌, ◌-◌, ◌^◌, ℕ, zero, suc, add-zero, Bool, true, false, Option, Some, None, List, [], refl, ap, sym, ◌∙◌, arith, ⊎_elim}
+use Rattle.std.proofs.Common.{◌≡◌, ◌<◌, ◌≤◌, ◌+◌, ◌*◌, ◌-◌, ◌^◌, ℕ, zero, suc, add-zero, Bool, true, false, Option, Some, None, List, [], refl, ap, sym, subst, ◌∙◌, arith, ⊎_elim}
 use Rattle.std.proofs.Math.Path.{fun_ext}
 use Rattle.std.proofs.lemmas.Bool.{cases_eq, cases_lt, lt-ltb, le-ltb}
 use Rattle.kernel_tables.specs.Kernel.{Kernel}
@@ -13,6 +13,7 @@ use Rattle.forest.specs.Forest.{IsSpace}
 use Rattle.kernel_forest.specs.Trees.{forest_of, TreesGood}
 use Rattle.seg_tree.proofs.Copying.{rest_trans}
 use Rattle.seg_tree.specs.Promises.{Remaps}
+use Rattle.seg_tree.specs.Ways.{HasOwnWay}
 use Rattle.unix_exec.specs.Plans.{plan_map_below, MapsPlan}
 
 below_none : (loads : List Load) → plan_map_below loads 0 ≡ (λ page. None)
@@ -59,6 +60,7 @@ maps_none old space loads is empty = record {
   trees = λ outside was. was;
   stays = is;
   here = empty ∙ sym (below_none loads);
+  ways = λ page none needed. absurd (omega arith);
   others = record { stay = λ other still apart. still; maps = λ other still apart. refl };
   filled = λ was. was;
   outside_now = λ outside. refl;
@@ -73,6 +75,10 @@ module _ (k0 k1 : Kernel) (space page : ℕ) (loads : List Load) (so_far : MapsP
     trees = so_far.trees;
     stays = so_far.stays;
     here = so_far.here ∙ one_other loads page other;
+    ways = λ number low needed. ⊎_elim
+        (λ (t : number ≡ page). absurd (let no : true ≡ false = sym needed ∙ ap (page_mapped loads) t ∙ other in cc))
+        (λ (t : number ≡ page → ⊥). so_far.ways number (omega arith) needed)
+        (cases_eq number page);
     others = so_far.others;
     filled = so_far.filled;
     outside_now = so_far.outside_now;
@@ -82,15 +88,19 @@ module _ (k0 k1 : Kernel) (space page : ℕ) (loads : List Load) (so_far : MapsP
         let most = so_far.most in omega arith;
   }
 
-  pub maps_needed : (k2 : Kernel) (known : Outside) → TreesGood k0 known [] → page_mapped loads page ≡ true
+  pub maps_needed : (k2 : Kernel) (known : Outside) → TreesGood k0 known [] → page_mapped loads page ≡ true → HasOwnWay k2 space page
       → Remaps k1 k2 space 4 (with_at (map_of (forest_of k1).keys space) page (Some (record { writable = true; page = 0 })))
       → MapsPlan k0 k2 space loads (page + 1)
-  maps_needed k2 known trees needed maps =
+  maps_needed k2 known trees needed own_way maps =
       let change = (maps.changes known (so_far.trees known trees)).1 in
       record {
         trees = λ outside was. (maps.changes outside (so_far.trees outside was)).0;
         stays = change.stays;
         here = change.here ∙ ap (λ (map : ℕ → Option Mapping). with_at map page (Some (record { writable = true; page = 0 }))) so_far.here ∙ one_needed loads page needed;
+        ways = λ number low is_needed. ⊎_elim
+            (λ (t : number ≡ page). subst (HasOwnWay k2 space) (sym t) own_way)
+            (λ (t : number ≡ page → ⊥). maps.ways number (so_far.ways number (omega arith) is_needed))
+            (cases_eq number page);
         others = record {
           stay = λ other still apart. change.others.stay other (so_far.others.stay other still apart) apart;
           maps = λ other still apart. change.others.maps other (so_far.others.stay other still apart) apart ∙ so_far.others.maps other still apart;

@@ -7,8 +7,8 @@ use Rattle.kernel_tables.specs.Kernel.{Kernel}
 use Rattle.space_bank.specs.Shares.{Outside}
 use Rattle.unix_model.specs.declared.elf.Load.{Load}
 use Rattle.unix_model.specs.Loading.{page_mapped, page_writable}
-use Rattle.unix_model.specs.Tables.{at, with_at, count_below}
-use Rattle.unix_model.proofs.TableLaws.{at-with_at, at-with_at-other, count_below-step}
+use Rattle.unix_model.specs.Tables.{at, with_at}
+use Rattle.unix_model.proofs.TableLaws.{at-with_at, at-with_at-other}
 use Rattle.forest.specs.Walks.{Mapping, map_of}
 use Rattle.forest.specs.Forest.{IsSpace}
 use Rattle.kernel_forest.specs.Trees.{forest_of, TreesGood}
@@ -63,12 +63,13 @@ seals_none old space loads is = record {
   trees = λ outside was. was;
   stays = is;
   here = sym (sealed_none loads (map_of (forest_of old).keys space));
+  ways = λ page own. own;
   others = record { stay = λ other still apart. still; maps = λ other still apart. refl };
   filled = λ was. was;
   outside_now = λ outside. refl;
   rows_now = λ mine apart. refl;
   rest = refl;
-  most = omega arith;
+  nodes = refl;
 }
 
 module _ (k0 k1 : Kernel) (space page : ℕ) (loads : List Load) (so_far : SealsPlan k0 k1 space loads page) where
@@ -80,26 +81,28 @@ module _ (k0 k1 : Kernel) (space page : ℕ) (loads : List Load) (so_far : Seals
     trees = so_far.trees;
     stays = so_far.stays;
     here = so_far.here ∙ one_left loads (map_of (forest_of k0).keys space) page other;
+    ways = so_far.ways;
     others = so_far.others;
     filled = so_far.filled;
     outside_now = so_far.outside_now;
     rows_now = so_far.rows_now;
     rest = so_far.rest;
-    most = let count : count_below (page_sealed loads) (page + 1) ≡ count_below (page_sealed loads) page = count_below-step (page_sealed loads) page ∙ rw other (omega arith) in
-        let most = so_far.most in omega arith;
+    nodes = so_far.nodes;
   }
 
   seals_found : (k2 : Kernel) (known : Outside) (found : Mapping) → TreesGood k0 known [] → page_sealed loads page ≡ true
       → map_of (forest_of k0).keys space page ≡ Some found
       → Remaps k1 k2 space 4 (with_at (map_of (forest_of k1).keys space) page (Some (read_only found)))
+      → k2.machine.nodes_taken ≡ k1.machine.nodes_taken
       → SealsPlan k0 k2 space loads (page + 1)
-  seals_found k2 known found trees is mapped maps =
+  seals_found k2 known found trees is mapped maps none =
       let change = (maps.changes known (so_far.trees known trees)).1 in
       record {
         trees = λ outside was. (maps.changes outside (so_far.trees outside was)).0;
         stays = change.stays;
         here = change.here ∙ ap (λ (map : ℕ → Option Mapping). with_at map page (Some (read_only found))) so_far.here
             ∙ one_sealed loads (map_of (forest_of k0).keys space) page found is mapped;
+        ways = λ number own. maps.ways number (so_far.ways number own);
         others = record {
           stay = λ other still apart. change.others.stay other (so_far.others.stay other still apart) apart;
           maps = λ other still apart. change.others.maps other (so_far.others.stay other still apart) apart ∙ so_far.others.maps other still apart;
@@ -108,20 +111,20 @@ module _ (k0 k1 : Kernel) (space page : ℕ) (loads : List Load) (so_far : Seals
         outside_now = λ outside. maps.outside_now outside ∙ so_far.outside_now outside;
         rows_now = λ mine apart. maps.rows_now mine apart ∙ so_far.rows_now mine apart;
         rest = rest_trans k0 k1 k2 so_far.rest maps.rest;
-        most = let count : count_below (page_sealed loads) (page + 1) ≡ count_below (page_sealed loads) page + 1 = count_below-step (page_sealed loads) page ∙ rw is refl in
-            let most = so_far.most in let more = maps.most in omega arith;
+        nodes = none ∙ so_far.nodes;
       }
 
   pub seals_needed : (k2 : Kernel) (known : Outside) → TreesGood k0 known [] → page_sealed loads page ≡ true
       → IsSome (map_of (forest_of k0).keys space page)
       → ((found : Mapping) → map_of (forest_of k1).keys space page ≡ Some found
       → Remaps k1 k2 space 4 (with_at (map_of (forest_of k1).keys space) page (Some (read_only found))))
+      → k2.machine.nodes_taken ≡ k1.machine.nodes_taken
       → SealsPlan k0 k2 space loads (page + 1)
-  seals_needed k2 known trees is some maps = go (map_of (forest_of k0).keys space page) refl
+  seals_needed k2 known trees is some maps none = go (map_of (forest_of k0).keys space page) refl
     where
       go : (found : Option Mapping) → map_of (forest_of k0).keys space page ≡ found → SealsPlan k0 k2 space loads (page + 1)
       go None e = absurd (let s : is_some (map_of (forest_of k0).keys space page) ≡ true = some in let no : true ≡ false = sym s ∙ ap is_some e in cc)
-      go (Some found) e = seals_found k2 known found trees is e (maps found (map_still ∙ e))
+      go (Some found) e = seals_found k2 known found trees is e (maps found (map_still ∙ e)) none
 
 -- a page that is to be read-only is needed
 pub sealed_needed : (loads : List Load) (page : ℕ) → page_sealed loads page ≡ true → page_mapped loads page ≡ true

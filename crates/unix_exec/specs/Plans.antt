@@ -1,5 +1,5 @@
 -- The pages of a program that is to be loaded into a space.
-use Rattle.std.specs.Prelude.{◌≡◌, ◌≤◌, ◌+◌, ◌*◌, ℕ, true, Option, Some, None, List, [], if◌then◌else◌, nat_lt}
+use Rattle.std.specs.Prelude.{◌≡◌, ◌<◌, ◌≤◌, ◌+◌, ◌*◌, ℕ, true, Option, Some, None, List, [], if◌then◌else◌, nat_lt}
 use Rattle.kernel_tables.specs.Kernel.{Kernel}
 use Rattle.kernel_tables.specs.Rows.{KeepsRows}
 use Rattle.space_bank.specs.Shares.{Outside}
@@ -12,6 +12,7 @@ use Rattle.forest.specs.Forest.{IsSpace, NoneEmpty}
 use Rattle.forest.specs.Calls.{KeepsOthers}
 use Rattle.kernel_forest.specs.Trees.{forest_of, outside_trees, TreesGood}
 use Rattle.kernel_forest.specs.Moves.{KeepsRest}
+use Rattle.seg_tree.specs.Ways.{HasOwnWay}
 
 -- a load that lies below the stack
 pub record IsLow (load : Load) : Type 0 where
@@ -25,11 +26,16 @@ plan_map loads page = if page_mapped loads page then Some (record { writable = t
 unfoldable pub plan_map_below : List Load → ℕ → ℕ → Option Mapping
 plan_map_below loads limit page = if nat_lt page limit then plan_map loads page else None
 
--- The pages of a program below a page were mapped in a space in which nothing was.
+-- the way to each page below a page number that a program needs is the space's own
+abbrev pub AreWaysOwn : Kernel → (space : ℕ) → List Load → (limit : ℕ) → Type 0
+AreWaysOwn kernel space loads limit = (page : ℕ) → page < limit → page_mapped loads page ≡ true → HasOwnWay kernel space page
+
+-- The pages of a program below a page were mapped in a space in which nothing was, on ways that are the space's own.
 pub record MapsPlan (old new : Kernel) (space : ℕ) (loads : List Load) (limit : ℕ) : Type 0 where
   pub trees : (outside : Outside) → TreesGood old outside [] → TreesGood new outside []
   pub stays : IsSpace (forest_of new) [] space
   pub here : map_of (forest_of new).keys space ≡ plan_map_below loads limit
+  pub ways : AreWaysOwn new space loads limit
   pub others : KeepsOthers (forest_of old) (forest_of new) space
   pub filled : NoneEmpty (forest_of old).keys → NoneEmpty (forest_of new).keys
   pub outside_now : (outside : Outside) → outside_trees new outside ≡ outside_trees old outside

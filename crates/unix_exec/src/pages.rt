@@ -40,8 +40,8 @@ fn map_loads<T: Store>(store: &mut T, space: Space, loads: &[Load])
     }
 }
 
-/// Maps the pages that a plan needs in a space in which nothing is mapped: pages of zeros, which may be written. It takes at most
-/// four nodes for each.
+/// Maps the pages that a plan needs in a space in which nothing is mapped: pages of zeros, which may be written, on ways that are the
+/// space's own. It takes at most four nodes for each.
 pub fn map_plan<T: Store>(store: &mut T, space: Space, plan: &ElfPlan)
     requires good { BankGood (kernel_of (T.memory store.old)) }
     requires trees { (outside : Outside) × TreesGood (kernel_of (T.memory store.old)) outside [] }

@@ -11,8 +11,8 @@ ghost use Rattle.forest.specs.Forest.{IsSpace};
 ghost use Rattle.kernel_forest.specs.Trees.{forest_of, TreesGood};
 ghost use Rattle.user_copy.specs.SpaceMemory.{space_memory};
 ghost use Rattle.unix_exec.specs.Loaded.{sealed_memory};
-ghost use Rattle.unix_exec.specs.Plans.{IsLow};
-ghost use Rattle.unix_exec.specs.Seals.{page_sealed, AreNeededMapped, HasSealNodes, SealsPlan};
+ghost use Rattle.unix_exec.specs.Plans.{AreWaysOwn, IsLow};
+ghost use Rattle.unix_exec.specs.Seals.{page_sealed, AreNeededMapped, SealsPlan};
 
 use super::needed::{in_stack, is_needed, touches};
 use elf_read::{ElfPlan, Load};
@@ -49,7 +49,8 @@ fn seal_loads<T: Store>(store: &mut T, space: Space, loads: &[Load])
     requires space { IsSpace (forest_of (kernel_of (T.memory store.old))) [] space.0.0 }
     requires loads { All IsLow loads.now }
     requires mapped { AreNeededMapped (map_of (forest_of (kernel_of (T.memory store.old))).keys space.0.0) loads.now }
-    requires room { HasSealNodes (kernel_of (T.memory store.old)) space.0.0 loads.now }
+    requires ways { AreWaysOwn (kernel_of (T.memory store.old)) space.0.0 loads.now (2 ^ 19) }
+    requires room { let old = kernel_of (T.memory store.old) in old.machine.nodes_taken + 19 ≤ old.nodes }
     ensures sealed { SealsPlan (kernel_of (T.memory store.old)) (kernel_of (T.memory store.new)) space.0.0 loads.now (2 ^ 19) }
     ensures good { BankGood (kernel_of (T.memory store.new)) }
     ensures keeps { T.keeps store.old store.new }
@@ -62,14 +63,16 @@ fn seal_loads<T: Store>(store: &mut T, space: Space, loads: &[Load])
 }
 
 /// Makes each page of a program read-only that no load makes writable and that isn't of the stack, in a space in which the pages
-/// that it needs are mapped. It takes at most four nodes for each, and no page.
+/// that it needs are mapped on ways that are the space's own, as `map_plan` leaves them and `put_bytes` and `put_start` keep them. It
+/// takes no node and no page.
 pub fn seal_plan<T: Store>(store: &mut T, space: Space, plan: &ElfPlan)
     requires good { BankGood (kernel_of (T.memory store.old)) }
     requires trees { (outside : Outside) × TreesGood (kernel_of (T.memory store.old)) outside [] }
     requires space { IsSpace (forest_of (kernel_of (T.memory store.old))) [] space.0.0 }
     requires loads { All IsLow plan.now.loads.items }
     requires mapped { AreNeededMapped (map_of (forest_of (kernel_of (T.memory store.old))).keys space.0.0) plan.now.loads.items }
-    requires room { HasSealNodes (kernel_of (T.memory store.old)) space.0.0 plan.now.loads.items }
+    requires ways { AreWaysOwn (kernel_of (T.memory store.old)) space.0.0 plan.now.loads.items (2 ^ 19) }
+    requires room { let old = kernel_of (T.memory store.old) in old.machine.nodes_taken + 19 ≤ old.nodes }
     ensures sealed { SealsPlan (kernel_of (T.memory store.old)) (kernel_of (T.memory store.new)) space.0.0 plan.now.loads.items (2 ^ 19) }
     ensures memory { space_memory (kernel_of (T.memory store.new)) space.0.0 ≡ sealed_memory plan.now.loads.items (space_memory (kernel_of (T.memory store.old)) space.0.0) }
     ensures good { BankGood (kernel_of (T.memory store.new)) }

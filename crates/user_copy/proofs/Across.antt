@@ -1,5 +1,6 @@
 -- Bytes that are put into one page, or into two.
 use Rattle.std.proofs.Common.{◌≡◌, ◌≢◌, ◌<◌, ◌≤◌, ◌+◌, ◌-◌, ◌*◌, ◌/◌, ◌%◌, ◌^◌, ℕ, true, Option, Some, None, List, [], ◌∷◌, ◌++◌, length, take, drop, length-drop, refl, ap, sym, subst, ◌∙◌, arith, ⊎_elim, add-zero, length-append}
+use Rattle.std.specs.Option.{is_some, IsSome}
 use Rattle.std.proofs.lemmas.List.{length-take-le, take_all, take-append-drop}
 use Rattle.kn_base.proofs.RowLaws.{length-part_at}
 use Rattle.std.proofs.lemmas.Bool.{cases_eq, cases_lt, eq-eqb, ne_eqb}
@@ -128,6 +129,15 @@ one_taken forest space first page before taken pages pages_now found mapped kept
     let k : pages_now ≡ pages + 1 = copied (λ turn. shared (subst (IsOwnInTurn forest space first page) it turn)) in
     omega arith
 
+-- ---- what was mapped is so still
+
+still_mapped : (old new : Forest) (space page result : ℕ) → IsSpace old [] space → MakesOwn old new space page result
+    → (number : ℕ) → IsSome (map_of old.keys space number) → IsSome (map_of new.keys space number)
+still_mapped old new space page result is owns number some = ⊎_elim
+    (λ (t : number ≡ page). ap is_some (ap (map_of new.keys space) t ∙ map_here old new space page result is owns))
+    (λ (t : number ≡ page → ⊥). ap is_some (map_there old new space page result is owns number t) ∙ some)
+    (cases_eq number page)
+
 -- ---- no byte
 
 pub nothing_put : (kernel : Kernel) (space address : ℕ) (bytes : List ℕ) → length bytes ≡ 0 → PutsBytes kernel kernel space address bytes
@@ -145,6 +155,8 @@ nothing_put kernel space address [] none = record {
   rest = refl;
   pages = λ number page off. refl;
   taken = λ taken counts. let zero_taken : taken ≡ 0 = counts in omega arith;
+  mapped = λ page some. some;
+  ways = λ page own. own;
   most = omega arith;
 }
 
@@ -176,6 +188,8 @@ module _ (k0 k1 : Kernel) (space address : ℕ) (bytes : List ℕ) (is : IsSpace
         (one_counted (forest_of k0) space (address / 4096) taken
         (subst (λ n. NotOwn (forest_of k0) space (address / 4096) n taken) (touched_one address (length bytes) some inside) counts)) in
         omega arith;
+    mapped = still_mapped (forest_of k0) (forest_of k1) space (address / 4096) piece.result is piece.owns;
+    ways = piece.ways;
     most = let most = piece.most in omega arith;
   }
 
@@ -257,6 +271,10 @@ module _ (k0 k1 k2 : Kernel) (space address next : ℕ) (first rest : List ℕ) 
     taken = λ taken counts.
         pages_taken_now taken (subst (λ n. NotOwn (forest_of k0) space (address / 4096) n taken)
         (ap (pages_touched address) (length-append first rest) ∙ touched_two address (length first + length rest) few (omega arith)) counts);
+    mapped = λ page some.
+        still_mapped (forest_of k1) (forest_of k2) space (address / 4096 + 1) b.result is_now second page
+        (still_mapped (forest_of k0) (forest_of k1) space (address / 4096) a.result is a.owns page some);
+    ways = λ page own. b.ways page (a.ways page own);
     most = let m = a.most in let n = b.most in omega arith;
   }
 

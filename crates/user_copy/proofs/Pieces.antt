@@ -160,6 +160,7 @@ module _ (k0 k1 : Kernel) (space address result : ℕ) (owner : PageOwner) (byte
     pages = bytes_there;
     kept = λ own. ap (λ (k : Kernel). k.machine.pages_taken) (owns.kept own).1;
     copied = λ shared. (owns.copied shared).number;
+    ways = owns.ways;
     most = owns.most;
   }
 

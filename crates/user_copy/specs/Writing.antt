@@ -1,5 +1,5 @@
 -- Bytes are put into a space: its memory changes as flat memory does, and every other space's memory is as before.
-use Rattle.std.specs.Prelude.{◌≡◌, ◌≢◌, ◌<◌, ◌≤◌, ◌+◌, ◌*◌, ◌/◌, ◌%◌, ◌==◌, ◌↔◌, if◌then◌else◌, ℕ, zero, suc, Some, List, [], length}
+use Rattle.std.specs.Prelude.{◌≡◌, ◌≢◌, ◌<◌, ◌≤◌, ◌+◌, ◌*◌, ◌/◌, ◌%◌, ◌==◌, ◌↔◌, if◌then◌else◌, ℕ, zero, suc, Some, IsSome, List, [], length}
 use Rattle.kernel_tables.specs.Kernel.{Kernel, IsBankPage, bank_page}
 use Rattle.kernel_tables.specs.Rows.{KeepsRows}
 use Rattle.space_bank.specs.Shares.{Outside}
@@ -13,6 +13,7 @@ use Rattle.kernel_forest.specs.Trees.{forest_of, outside_trees, TreesGood}
 use Rattle.kernel_forest.specs.Releases.{KeepsUnreleased}
 use Rattle.user_copy.specs.SpaceMemory.{space_memory}
 use Rattle.seg_tree.specs.Writes.{writable_mapping}
+use Rattle.seg_tree.specs.Ways.{KeepsWays}
 
 -- A page of a space was made its own, and may have become another page of the store.
 pub record MakesOwn (old new : Forest) (space page result : ℕ) : Type 0 where
@@ -64,10 +65,11 @@ pub record PutsPiece (old new : Kernel) (space at : ℕ) (bytes : List ℕ) : Ty
   pub pages : (number : ℕ) → IsBankPage old.size number → number ≢ result → bank_page new number ≡ bank_page old number
   pub kept : IsOwn (forest_of old) space (at / 4096) found → new.machine.pages_taken ≡ old.machine.pages_taken
   pub copied : (IsOwn (forest_of old) space (at / 4096) found → ⊥) → new.machine.pages_taken ≡ old.machine.pages_taken + 1
+  pub ways : KeepsWays old new space
   pub most : new.machine.nodes_taken ≤ old.machine.nodes_taken + 4
 
--- Bytes were put into a space, from an address on. The pages that they touch are own now, and all other pages of the store have
--- the bytes that they had.
+-- Bytes were put into a space, from an address on. The pages that they touch are own now, all other pages of the store have the
+-- bytes that they had, what is mapped in the space is so still, and each way in it that was its own.
 pub record PutsBytes (old new : Kernel) (space at : ℕ) (bytes : List ℕ) : Type 0 where
   pub trees : (outside : Outside) → TreesGood old outside [] → TreesGood new outside []
   pub spaces : (other : ℕ) → IsSpace (forest_of old) [] other ↔ IsSpace (forest_of new) [] other
@@ -83,4 +85,6 @@ pub record PutsBytes (old new : Kernel) (space at : ℕ) (bytes : List ℕ) : Ty
       → bank_page new number ≡ bank_page old number
   pub taken : (taken : ℕ) → NotOwn (forest_of old) space (at / 4096) (pages_touched at (length bytes)) taken
       → new.machine.pages_taken ≡ old.machine.pages_taken + taken
+  pub mapped : (page : ℕ) → IsSome (map_of (forest_of old).keys space page) → IsSome (map_of (forest_of new).keys space page)
+  pub ways : KeepsWays old new space
   pub most : new.machine.nodes_taken ≤ old.machine.nodes_taken + 8

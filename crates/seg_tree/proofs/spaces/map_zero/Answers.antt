@@ -25,11 +25,18 @@ returns-clause-mapped g c =
           put.after outside (trees_nothing old outside (Page (record { 0 = 0 }) c.args.writable) refl tt trees) new
           (lets_nothing new c.put_leaf.result (ap named null) (fits_tree 1 c.put_leaf.result put.leaf));
       filled = put.filled (λ e. cc);
+      ways = put.ways;
       outside_now = put.outside_now;
       rows_now = put.rows_now;
       rest = put.rest;
       most = put.most;
     }
+
+pub returns-clause-own_way : goal.returns-clause-own_way
+returns-clause-own_way g c = c.put_leaf.ensures.put.own
+
+pub returns-clause-no_node : goal.returns-clause-no_node
+returns-clause-no_node g c own = c.put_leaf.ensures.put.none own
 
 pub returns-clause-blocks : goal.returns-clause-blocks
 returns-clause-blocks g c = c.put_leaf.ensures.blocks

@@ -32,7 +32,7 @@ loop-page-preserved g c =
     elim c.if-is_needed.branch [
       | then-is_needed w ↦ rw w.store-is (record {
         maps = maps_needed old now c.args.space.0.0 c.loop-page.page c.args.loads.now c.loop-page.invariant.maps (kernel_of (g.T.Store.memory w.map_zero.new.store)) c.requires.trees.0 c.requires.trees.1
-            (sym c.is_needed.ensures ∙ w.if-is_needed.true) w.map_zero.ensures.mapped;
+            (sym c.is_needed.ensures ∙ w.if-is_needed.true) w.map_zero.ensures.own_way w.map_zero.ensures.mapped;
         good = w.map_zero.ensures.good;
         keeps = g.met.T.Store.keeps_trans c.args.store.now c.loop-page.store w.map_zero.new.store c.loop-page.invariant.keeps w.map_zero.ensures.keeps;
       })

@@ -1,6 +1,6 @@
-use Rattle.std.proofs.Common.{sym, subst, ◌∙◌}
+use Rattle.std.proofs.Common.{ap, sym, subst, ◌∙◌, arith}
 use Rattle.std.specs.Prelude.{IsSome}
-use Rattle.kernel_tables.specs.Kernel.{kernel_of}
+use Rattle.kernel_tables.specs.Kernel.{Kernel, kernel_of}
 use Rattle.unix_exec.proofs.Sealed.{seals_none, seals_needed, seals_other, map_still, sealed_needed}
 use Rattle.unix_exec.proofs.seal.seal_loads.Goals as goal
 use Rattle.unix_exec.proofs.seal.seal_loads.Goals.{then-is_sealed, else-is_sealed}
@@ -18,7 +18,11 @@ protect-requires-clause-mapped g c =
     (c.requires.mapped c.loop-page.page (sealed_needed c.args.loads.now c.loop-page.page (sym c.is_sealed.ensures ∙ c.if-is_sealed.true)))
 
 pub protect-requires-clause-room : goal.protect-requires-clause-room
-protect-requires-clause-room g c = c.requires.room (kernel_of (g.T.Store.memory c.loop-page.store)) c.loop-page.page c.loop-page.invariant.seals
+protect-requires-clause-room g c =
+    let nodes = c.loop-page.invariant.seals.nodes in
+    let all = ap (λ (k : Kernel). k.nodes) c.loop-page.invariant.seals.rest in
+    let room = c.requires.room in
+    omega arith
 
 pub loop-page-preserved : goal.loop-page-preserved
 loop-page-preserved g c =
@@ -29,7 +33,9 @@ loop-page-preserved g c =
         seals = seals_needed old now c.args.space.0.0 c.loop-page.page c.args.loads.now c.loop-page.invariant.seals (kernel_of (g.T.Store.memory w.protect.new.store)) c.requires.trees.0 c.requires.trees.1
             (sym c.is_sealed.ensures ∙ w.if-is_sealed.true)
             (c.requires.mapped c.loop-page.page (sealed_needed c.args.loads.now c.loop-page.page (sym c.is_sealed.ensures ∙ w.if-is_sealed.true)))
-            w.protect.ensures.protected;
+            w.protect.ensures.protected
+            (w.protect.ensures.no_node (c.loop-page.invariant.seals.ways c.loop-page.page
+            (c.requires.ways c.loop-page.page c.loop-page-test.true (sealed_needed c.args.loads.now c.loop-page.page (sym c.is_sealed.ensures ∙ w.if-is_sealed.true)))));
         good = w.protect.ensures.good;
         keeps = g.met.T.Store.keeps_trans c.args.store.now c.loop-page.store w.protect.new.store c.loop-page.invariant.keeps w.protect.ensures.keeps;
       })
