@@ -13,7 +13,8 @@ use Rattle.forest.specs.Walks.{Mapping, map_of}
 use Rattle.kernel_forest.specs.Trees.{forest_of}
 use Rattle.user_copy.specs.SpaceMemory.{memory_by, page_of, space_memory}
 use Rattle.unix_exec.specs.Plans.{IsLow, MapsPlan, plan_map, plan_map_below}
-use Rattle.unix_exec.specs.Seals.{page_sealed, read_only, sealed_below, SealsPlan}
+use Rattle.std.specs.Option.{is_some}
+use Rattle.unix_exec.specs.Seals.{AreNeededMapped, page_sealed, read_only, sealed_below, SealsPlan}
 use Rattle.unix_exec.specs.Loaded.{mapped_memory, read_only_page, sealed_memory}
 
 never : (b : Bool) → (b && false) ≡ false
@@ -34,6 +35,17 @@ past_mapped loads page low far =
     ap (λ (b : Bool). in_stack page || b) (none_touches loads page low far)
     ∙ ap (λ (b : Bool). (nat_le 0x7_FFF0 page && b) || false) (le-ltb page 0x8_0000 far)
     ∙ ap (λ (b : Bool). b || false) (never (nat_le 0x7_FFF0 page))
+
+-- what a program needs is mapped once its plan is
+pub needed_is : (map : ℕ → Option Mapping) (loads : List Load) → All IsLow loads → map ≡ plan_map_below loads (2 ^ 19) → AreNeededMapped map loads
+unfolding plan_map_below
+needed_is map loads low here page needed = ⊎_elim
+    (λ (t : page < 2 ^ 19).
+    ap (λ (m : ℕ → Option Mapping). is_some (m page)) here
+    ∙ ap (λ (b : Bool). is_some (if b then plan_map loads page else None)) (lt-ltb page (2 ^ 19) t)
+    ∙ ap (λ (b : Bool). let found : Option Mapping = if b then Some (record { writable = true; page = 0 }) else None in is_some found) needed)
+    (λ (t : 2 ^ 19 ≤ page). absurd (let no : true ≡ false = sym needed ∙ past_mapped loads page low t in cc))
+    (cases_lt page (2 ^ 19))
 
 module _ (old new : Kernel) (space : ℕ) (loads : List Load) (low : All IsLow loads) where
   mapped_page : (zero : memory_page new 0 ≡ replicate 4096 0) (page : ℕ) → option_map (page_of (memory_page new)) (plan_map_below loads (2 ^ 19) page) ≡ (if page_mapped loads page then Some zero_page else None)

@@ -13,6 +13,7 @@ ghost use Rattle.forest.specs.Forest.{IsSpace};
 ghost use Rattle.kernel_forest.specs.Trees.{forest_of, TreesGood};
 ghost use Rattle.user_copy.specs.SpaceMemory.{space_memory};
 ghost use Rattle.unix_exec.specs.Plans.{IsLow, MapsPlan};
+ghost use Rattle.unix_exec.specs.Seals.{AreNeededMapped};
 ghost use Rattle.unix_exec.specs.Loaded.{mapped_memory};
 
 use super::needed::is_needed;
@@ -50,6 +51,7 @@ pub fn map_plan<T: Store>(store: &mut T, space: Space, plan: &ElfPlan)
     requires loads { All IsLow plan.now.loads.items }
     requires room { let old = kernel_of (T.memory store.old) in old.machine.nodes_taken + 15 + 4 * count_below (page_mapped plan.now.loads.items) (2 ^ 19) ≤ old.nodes }
     ensures mapped { MapsPlan (kernel_of (T.memory store.old)) (kernel_of (T.memory store.new)) space.0.0 plan.now.loads.items (2 ^ 19) }
+    ensures needed { AreNeededMapped (map_of (forest_of (kernel_of (T.memory store.new))).keys space.0.0) plan.now.loads.items }
     ensures memory { (kernel_of (T.memory store.old)).page_zero ≡ zero_page → space_memory (kernel_of (T.memory store.new)) space.0.0 ≡ mapped_memory plan.now.loads.items }
     ensures good { BankGood (kernel_of (T.memory store.new)) }
     ensures keeps { T.keeps store.old store.new }
