@@ -1,6 +1,6 @@
 //! Reads and writes words of a space, and shares spaces, so many times, to be timed from outside: `bench_spaces read 1000000`
-//! reads a word of an own page in each round, `bench_spaces write 1000000` writes one, and `bench_spaces share 4096 1000`
-//! shares a space that has so many pages of its own in each round. The answer is what was read, or how many rounds went well.
+//! reads a word of an own page in each round, `bench_spaces write 1000000` writes one, `find` and `own` do so by the calls of
+//! `seg_tree` alone, and `bench_spaces share 4096 1000` shares a space that has so many pages of its own in each round. The answer is what was read, or how many rounds went well.
 //! Without words it reads a thousand words.
 #![tactic(auto)]
 
@@ -20,6 +20,8 @@ fn number_of(word: Option<String>, other: u32) -> u32 {
 enum Work {
     Read,
     Write,
+    Find,
+    Own,
     Share(u32),
 }
 
@@ -32,6 +34,10 @@ fn main(rt: HostRuntime) -> io::Result<()> {
                 Work::Share(number_of(words.next(), 16))
             } else if word.as_str() == "write" {
                 Work::Write
+            } else if word.as_str() == "find" {
+                Work::Find
+            } else if word.as_str() == "own" {
+                Work::Own
             } else {
                 Work::Read
             }
@@ -48,6 +54,8 @@ fn main(rt: HostRuntime) -> io::Result<()> {
     let answer = match work {
         Work::Read => rounds::read(&mut store, space, count),
         Work::Write => rounds::write(&mut store, space, count),
+        Work::Find => rounds::find_words(&mut store, space, count),
+        Work::Own => rounds::own_words(&mut store, space, count),
         Work::Share(pages) => rounds::share(&mut store, space, pages, count),
     };
     println!(rt; "{answer}")?;

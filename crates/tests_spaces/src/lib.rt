@@ -2,7 +2,15 @@
 //! that tests and measurements may make them in any order.
 #![tactic(auto)]
 
+#[cfg(test)]
+mod checked;
+#[cfg(test)]
+mod damage;
+#[cfg(test)]
+mod drops;
 pub mod guarded;
+#[cfg(test)]
+mod plain;
 #[cfg(test)]
 mod rows;
 #[cfg(test)]

@@ -1,13 +1,11 @@
 //! Spaces apart and shared, and bytes in them.
 
-ghost use Rattle.std.specs.Prelude.{◌≡◌, ℕ, ◌<◌, ◌≤◌, ◌+◌, ◌^◌, IfOk, length, []};
+ghost use Rattle.std.specs.Prelude.{◌≡◌, ◌≢◌, ℕ, ◌<◌, ◌≤◌, ◌+◌, ◌^◌, IfOk, length, []};
 ghost use Rattle.obj_store.specs.Store.{ram_memory};
 ghost use Rattle.kn_base.specs.Memory.{Memory};
 ghost use Rattle.kernel_tables.specs.Kernel.{Kernel, kernel_of};
 ghost use Rattle.space_bank.specs.Bank.{BankGood};
-ghost use Rattle.forest.specs.Forest.{IsSpace};
-ghost use Rattle.kernel_forest.specs.Trees.{forest_of};
-ghost use Rattle.tests_spaces.specs.Ready.{IsReady, KeepsSpaces};
+ghost use Rattle.tests_spaces.specs.Ready.{IsReady, IsTestSpace, KeepsSpaces};
 
 use crate::guarded::{add_space, bank_of, map, own, put, seal, share_of};
 use arrayvec::ArrayVec;
@@ -21,7 +19,7 @@ use std::test::Fail;
 use user_copy::{CopyFault, can_write, take_bytes, take_text};
 
 // An empty bank of 64 pages.
-fn small_bank(alloc: Global) -> Result<RamStore, Fail>
+pub fn small_bank(alloc: Global) -> Result<RamStore, Fail>
     ensures ready { IfOk result (λ store. IsReady (kernel_of (ram_memory store))) }
 {
     match bank_of(alloc, 64) {
@@ -31,11 +29,11 @@ fn small_bank(alloc: Global) -> Result<RamStore, Fail>
 }
 
 // A new space.
-fn new_one<T: Store>(rt: &impl Abort, store: &mut T) -> Space
+pub fn new_one<T: Store>(rt: &impl Abort, store: &mut T) -> Space
     requires ready { IsReady (kernel_of (T.memory store.old)) }
     ensures ready { IsReady (kernel_of (T.memory store.new)) }
     ensures spaces { KeepsSpaces (kernel_of (T.memory store.old)) (kernel_of (T.memory store.new)) }
-    ensures added { IsSpace (forest_of (kernel_of (T.memory store.new))) [] result.0.0 }
+    ensures added { IsTestSpace (kernel_of (T.memory store.new)) result.0.0 }
 {
     match add_space(store) {
         Some(space) => space,
@@ -44,13 +42,14 @@ fn new_one<T: Store>(rt: &impl Abort, store: &mut T) -> Space
 }
 
 // A space with the same map.
-fn shared_one<T: Store>(rt: &impl Abort, store: &mut T, space: Space) -> Space
+pub fn shared_one<T: Store>(rt: &impl Abort, store: &mut T, space: Space) -> Space
     requires ready { IsReady (kernel_of (T.memory store.old)) }
-    requires space { IsSpace (forest_of (kernel_of (T.memory store.old))) [] space.0.0 }
+    requires space { IsTestSpace (kernel_of (T.memory store.old)) space.0.0 }
     ensures ready { IsReady (kernel_of (T.memory store.new)) }
     ensures spaces { KeepsSpaces (kernel_of (T.memory store.old)) (kernel_of (T.memory store.new)) }
-    ensures stays { IsSpace (forest_of (kernel_of (T.memory store.new))) [] space.0.0 }
-    ensures added { IsSpace (forest_of (kernel_of (T.memory store.new))) [] result.0.0 }
+    ensures stays { IsTestSpace (kernel_of (T.memory store.new)) space.0.0 }
+    ensures apart { result.0.0 ≢ space.0.0 }
+    ensures added { IsTestSpace (kernel_of (T.memory store.new)) result.0.0 }
 {
     match share_of(store, space) {
         Some(copy) => copy,
@@ -59,9 +58,9 @@ fn shared_one<T: Store>(rt: &impl Abort, store: &mut T, space: Space) -> Space
 }
 
 // The four bytes at an address, or the fault.
-fn four_bytes<T: Store>(store: &T, space: Space, at: u32) -> Result<[u8; 4], CopyFault>
+pub fn four_bytes<T: Store>(store: &T, space: Space, at: u32) -> Result<[u8; 4], CopyFault>
     requires ready { IsReady (kernel_of (T.memory store.now)) }
-    requires space { IsSpace (forest_of (kernel_of (T.memory store.now))) [] space.0.0 }
+    requires space { IsTestSpace (kernel_of (T.memory store.now)) space.0.0 }
 {
     let mut bytes = [9; 4];
     match take_bytes(store, space, at, &mut bytes) {
@@ -73,7 +72,7 @@ fn four_bytes<T: Store>(store: &T, space: Space, at: u32) -> Result<[u8; 4], Cop
 // What is mapped at a page number below 2^19.
 fn found_at<T: Store>(store: &T, space: Space, page: u32) -> Option<Found>
     requires ready { IsReady (kernel_of (T.memory store.now)) }
-    requires space { IsSpace (forest_of (kernel_of (T.memory store.now))) [] space.0.0 }
+    requires space { IsTestSpace (kernel_of (T.memory store.now)) space.0.0 }
     requires page { page < 2 ^ 19 }
 {
     find(store, space, page)
@@ -82,7 +81,7 @@ fn found_at<T: Store>(store: &T, space: Space, page: u32) -> Option<Found>
 // Whether a range may be written.
 fn may_write<T: Store>(store: &T, space: Space, at: u32, count: u32) -> bool
     requires ready { IsReady (kernel_of (T.memory store.now)) }
-    requires space { IsSpace (forest_of (kernel_of (T.memory store.now))) [] space.0.0 }
+    requires space { IsTestSpace (kernel_of (T.memory store.now)) space.0.0 }
 {
     can_write(store, space, at, count)
 }
@@ -90,7 +89,7 @@ fn may_write<T: Store>(store: &T, space: Space, at: u32, count: u32) -> bool
 // The length of the text at an address, or the fault.
 fn text_length<T: Store>(store: &T, space: Space, at: u32) -> Result<usize, CopyFault>
     requires ready { IsReady (kernel_of (T.memory store.now)) }
-    requires space { IsSpace (forest_of (kernel_of (T.memory store.now))) [] space.0.0 }
+    requires space { IsTestSpace (kernel_of (T.memory store.now)) space.0.0 }
 {
     let mut text: ArrayVec<u8, 256> = ArrayVec::new();
     match take_text(store, space, at, &mut text) {
@@ -100,7 +99,7 @@ fn text_length<T: Store>(store: &T, space: Space, at: u32) -> Result<usize, Copy
 }
 
 // What is taken.
-fn taken_in<T: Store>(store: &T) -> Taken
+pub fn taken_in<T: Store>(store: &T) -> Taken
     requires ready { IsReady (kernel_of (T.memory store.now)) }
 {
     taken_of(store)
@@ -200,12 +199,12 @@ fn a_text_has_at_most_255_bytes(rt: HostRuntime) -> Result<(), Fail> {
 }
 
 // Maps sixteen pages from page 32 on, and writes a byte into each.
-fn fill_sixteen<T: Store>(rt: &impl Abort, store: &mut T, space: Space)
+pub fn fill_sixteen<T: Store>(rt: &impl Abort, store: &mut T, space: Space)
     requires ready { IsReady (kernel_of (T.memory store.old)) }
-    requires space { IsSpace (forest_of (kernel_of (T.memory store.old))) [] space.0.0 }
+    requires space { IsTestSpace (kernel_of (T.memory store.old)) space.0.0 }
     ensures ready { IsReady (kernel_of (T.memory store.new)) }
     ensures spaces { KeepsSpaces (kernel_of (T.memory store.old)) (kernel_of (T.memory store.new)) }
-    ensures stays { IsSpace (forest_of (kernel_of (T.memory store.new))) [] space.0.0 }
+    ensures stays { IsTestSpace (kernel_of (T.memory store.new)) space.0.0 }
 {
     for page in 32..48u32 {
         assert!(rt; map(store, space, page, true));

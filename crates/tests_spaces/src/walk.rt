@@ -1,96 +1,31 @@
-//! A random walk on eight spaces, beside a plain map of each.
+//! A random walk on eight spaces, beside what they are to map and to take.
 
-ghost use Rattle.std.specs.Prelude.{◌≡◌, ℕ, ◌<◌, ◌≤◌, ◌+◌, ◌^◌, IfOk, length, [], ◌∷◌, ◌++◌};
+ghost use Rattle.std.specs.Prelude.{◌≡◌, ◌≢◌, ℕ, ◌<◌, ◌≤◌, ◌+◌, ◌^◌, IfOk, length, [], ◌∷◌, ◌++◌, All};
 ghost use Rattle.obj_store.specs.Store.{ram_memory};
 ghost use Rattle.kn_base.specs.Memory.{Memory};
 ghost use Rattle.kernel_tables.specs.Kernel.{Kernel, kernel_of};
-ghost use Rattle.forest.specs.Forest.{IsSpace};
-ghost use Rattle.kernel_forest.specs.Trees.{forest_of};
-ghost use Rattle.tests_spaces.specs.Ready.{AreSpaces, IsReady, KeepsSpaces};
+ghost use Rattle.seg_tree.specs.declared.spaces.Space.{Space};
+ghost use Rattle.seg_tree.specs.Checks.{NodesInRange};
+ghost use Rattle.tests_spaces.specs.Ready.{AreSpaces, AreSpacesBut, IsReady, IsTestSpace, KeepsSpaces};
 
-use crate::guarded::{add_space, bank_of, count_mapped, map, own, put, seal, share_of, take_away};
+use crate::checked::keys_in_range;
+use crate::guarded::{
+    add_space, bank_of, count_mapped, drop_one, map, own, put, seal, share_of, take_away,
+};
+use crate::plain::{self, Line, Plain, line_of, page_number};
 use kn_base::Store;
 use obj_store::{NoMemory, RamStore};
-use seg_tree::{Space, find};
+use seg_tree::{Space, check_space, find};
 use space_bank::taken_of;
 use std::alloc::Global;
 use std::process::Abort;
 use std::test::Fail;
 use user_copy::take_bytes;
 
-// What a space is to have at a page: the first byte of the page, and whether it may be written.
-#[derive(Clone, Copy, Debug, PartialEq, Eq)]
-struct Line {
-    byte: u8,
-    writable: bool,
-}
-
-// The plain maps of eight spaces, eight pages each.
-#[derive(Clone, Copy)]
-struct Plain {
-    lines: [Option<Line>; 64],
-}
-
-// The pages of the walk: some share their nodes at each level, and some share none.
-fn page_number(index: usize) -> u32
-    ensures { result < 2 ^ 19 }
-{
-    match index {
-        0 => 0,
-        1 => 1,
-        2 => 16,
-        3 => 255,
-        4 => 256,
-        5 => 4096,
-        6 => 65_536,
-        _ => 524_287,
-    }
-}
-
-// What a space is to have at the page of an index.
-fn line_of(plain: &Plain, space: usize, index: usize) -> Option<Line>
-    requires space { space < 8 }
-    requires index { index < 8 }
-{
-    plain.lines[8 * space + index]
-}
-
-// Sets what a space is to have at the page of an index.
-fn set_line(plain: &mut Plain, space: usize, index: usize, line: Option<Line>)
-    requires space { space < 8 }
-    requires index { index < 8 }
-{
-    plain.lines[8 * space + index] = line;
-}
-
-// A space gets the plain map of another one.
-fn copy_lines(plain: &mut Plain, from: usize, to: usize)
-    requires from { from < 8 }
-    requires to { to < 8 }
-{
-    for index in 0..8 {
-        let line = line_of(plain, from, index);
-        set_line(plain, to, index, line);
-    }
-}
-
-// How many pages a space is to have.
-fn count_lines(plain: &Plain, space: usize) -> u32
-    requires space { space < 8 }
-{
-    let mut count = 0u32;
-    for index in 0..8 {
-        if line_of(plain, space, index).is_some() {
-            count = count.wrapping_add(1);
-        }
-    }
-    count
-}
-
 // The first byte of a page, or 255 where it isn't mapped.
 fn first_byte<T: Store>(store: &T, space: Space, page: u32) -> u8
     requires ready { IsReady (kernel_of (T.memory store.now)) }
-    requires space { IsSpace (forest_of (kernel_of (T.memory store.now))) [] space.0.0 }
+    requires space { IsTestSpace (kernel_of (T.memory store.now)) space.0.0 }
     requires page { page < 2 ^ 19 }
 {
     let mut byte = [0];
@@ -100,174 +35,177 @@ fn first_byte<T: Store>(store: &T, space: Space, page: u32) -> u8
     }
 }
 
-// What a space has at a page.
-fn line_at<T: Store>(store: &T, space: Space, page: u32) -> Option<Line>
+// Whether a space has at a page what it is to have.
+fn agrees<T: Store>(store: &T, space: Space, page: u32, line: Option<Line>) -> bool
     requires ready { IsReady (kernel_of (T.memory store.now)) }
-    requires space { IsSpace (forest_of (kernel_of (T.memory store.now))) [] space.0.0 }
+    requires space { IsTestSpace (kernel_of (T.memory store.now)) space.0.0 }
     requires page { page < 2 ^ 19 }
 {
     match find(store, space, page) {
-        Some(found) => Some(Line {
-            byte: first_byte(store, space, page),
-            writable: found.writable,
-        }),
-        None => None,
+        Some(found) => {
+            let byte = first_byte(store, space, page);
+            line.is_some_and(|line| line.byte == byte && line.writable == found.writable)
+        }
+        None => line.is_none(),
     }
 }
 
 // A space is compared with its plain map.
 fn look<T: Store>(rt: &impl Abort, store: &T, space: Space, plain: &Plain, number: usize)
     requires ready { IsReady (kernel_of (T.memory store.now)) }
-    requires space { IsSpace (forest_of (kernel_of (T.memory store.now))) [] space.0.0 }
+    requires space { IsTestSpace (kernel_of (T.memory store.now)) space.0.0 }
     requires number { number < 8 }
 {
     for index in 0..8 {
-        let line = line_at(store, space, page_number(index));
-        assert!(rt; line == line_of(plain, number, index));
+        let line = line_of(plain, number, index);
+        assert!(rt; agrees(store, space, page_number(index), line));
     }
 }
 
+// Whether as much is taken as the plain maps say, beside one root for each space.
+fn takes_enough<T: Store>(store: &T, plain: &Plain, roots: u32) -> bool
+    requires ready { IsReady (kernel_of (T.memory store.now)) }
+{
+    let taken = taken_of(store);
+    let nodes = plain::nodes_taken(plain).wrapping_add(roots);
+    taken.pages == plain::pages_taken(plain) && taken.nodes == nodes
+}
+
 // Maps a page, or finds that it is mapped.
-fn map_line<T: Store>(
+fn map_one<T: Store>(
     rt: &impl Abort,
     store: &mut T,
     space: Space,
-    page: u32,
-    line: Option<Line>,
-) -> Option<Line>
+    plain: &mut Plain,
+    number: usize,
+    index: usize,
+)
     requires ready { IsReady (kernel_of (T.memory store.old)) }
-    requires space { IsSpace (forest_of (kernel_of (T.memory store.old))) [] space.0.0 }
+    requires space { IsTestSpace (kernel_of (T.memory store.old)) space.0.0 }
+    requires number { number < 8 }
+    requires index { index < 8 }
     ensures ready { IsReady (kernel_of (T.memory store.new)) }
     ensures spaces { KeepsSpaces (kernel_of (T.memory store.old)) (kernel_of (T.memory store.new)) }
-    ensures stays { IsSpace (forest_of (kernel_of (T.memory store.new))) [] space.0.0 }
 {
-    let mapped = map(store, space, page, true);
-    assert!(rt; mapped == line.is_none());
+    let mapped = map(store, space, page_number(index), true);
+    assert!(rt; mapped == line_of(plain, number, index).is_none());
     if mapped {
-        Some(Line {
-            byte: 0,
-            writable: true,
-        })
-    } else {
-        line
+        plain::add_page(plain, number, index);
     }
 }
 
 // Puts a byte, or finds that the page can't be written.
-fn put_line<T: Store>(
+fn put_one<T: Store>(
     rt: &impl Abort,
     store: &mut T,
     space: Space,
-    page: u32,
-    line: Option<Line>,
+    plain: &mut Plain,
+    number: usize,
+    index: usize,
     byte: u8,
-) -> Option<Line>
+)
     requires ready { IsReady (kernel_of (T.memory store.old)) }
-    requires space { IsSpace (forest_of (kernel_of (T.memory store.old))) [] space.0.0 }
-    requires page { page < 2 ^ 19 }
+    requires space { IsTestSpace (kernel_of (T.memory store.old)) space.0.0 }
+    requires number { number < 8 }
+    requires index { index < 8 }
     ensures ready { IsReady (kernel_of (T.memory store.new)) }
     ensures spaces { KeepsSpaces (kernel_of (T.memory store.old)) (kernel_of (T.memory store.new)) }
-    ensures stays { IsSpace (forest_of (kernel_of (T.memory store.new))) [] space.0.0 }
 {
-    let done = put(store, space, 4096 * page, &[byte]);
-    assert!(rt; done == line.is_some_and(|found| found.writable));
-    if done {
-        Some(Line {
-            byte,
-            writable: true,
-        })
-    } else {
-        line
-    }
-}
-
-// Makes a page read-only, or finds that it isn't mapped.
-fn seal_line<T: Store>(
-    rt: &impl Abort,
-    store: &mut T,
-    space: Space,
-    page: u32,
-    line: Option<Line>,
-) -> Option<Line>
-    requires ready { IsReady (kernel_of (T.memory store.old)) }
-    requires space { IsSpace (forest_of (kernel_of (T.memory store.old))) [] space.0.0 }
-    ensures ready { IsReady (kernel_of (T.memory store.new)) }
-    ensures spaces { KeepsSpaces (kernel_of (T.memory store.old)) (kernel_of (T.memory store.new)) }
-    ensures stays { IsSpace (forest_of (kernel_of (T.memory store.new))) [] space.0.0 }
-{
-    let sealed = seal(store, space, page);
-    assert!(rt; sealed == line.is_some());
-    line.map(|found| Line {
-        byte: found.byte,
-        writable: false,
-    })
-}
-
-// Takes a page away, or finds that it isn't mapped.
-fn unmap_line<T: Store>(
-    rt: &impl Abort,
-    store: &mut T,
-    space: Space,
-    page: u32,
-    line: Option<Line>,
-) -> Option<Line>
-    requires ready { IsReady (kernel_of (T.memory store.old)) }
-    requires space { IsSpace (forest_of (kernel_of (T.memory store.old))) [] space.0.0 }
-    ensures ready { IsReady (kernel_of (T.memory store.new)) }
-    ensures spaces { KeepsSpaces (kernel_of (T.memory store.old)) (kernel_of (T.memory store.new)) }
-    ensures stays { IsSpace (forest_of (kernel_of (T.memory store.new))) [] space.0.0 }
-{
-    let gone = take_away(store, space, page);
-    assert!(rt; gone == line.is_some());
-    None
+    let done = put(store, space, 4096 * page_number(index), &[byte]);
+    assert!(rt; done == line_of(plain, number, index).is_some_and(|line| line.writable));
+    plain::own_page(plain, number, index, Some(byte));
 }
 
 // Makes a page own, or finds that it can't be written.
-fn own_line<T: Store>(
+fn own_one<T: Store>(
     rt: &impl Abort,
     store: &mut T,
     space: Space,
-    page: u32,
-    line: Option<Line>,
-) -> Option<Line>
+    plain: &mut Plain,
+    number: usize,
+    index: usize,
+)
     requires ready { IsReady (kernel_of (T.memory store.old)) }
-    requires space { IsSpace (forest_of (kernel_of (T.memory store.old))) [] space.0.0 }
+    requires space { IsTestSpace (kernel_of (T.memory store.old)) space.0.0 }
+    requires number { number < 8 }
+    requires index { index < 8 }
     ensures ready { IsReady (kernel_of (T.memory store.new)) }
     ensures spaces { KeepsSpaces (kernel_of (T.memory store.old)) (kernel_of (T.memory store.new)) }
-    ensures stays { IsSpace (forest_of (kernel_of (T.memory store.new))) [] space.0.0 }
 {
-    let owned = own(store, space, page).is_some();
-    assert!(rt; owned == line.is_some_and(|found| found.writable));
-    line
+    let owned = own(store, space, page_number(index)).is_some();
+    assert!(rt; owned == line_of(plain, number, index).is_some_and(|line| line.writable));
+    plain::own_page(plain, number, index, None);
 }
 
-// One call on one page of a space. What the page is to have now.
+// Makes a page read-only, or finds that it isn't mapped.
+fn seal_one<T: Store>(
+    rt: &impl Abort,
+    store: &mut T,
+    space: Space,
+    plain: &mut Plain,
+    number: usize,
+    index: usize,
+)
+    requires ready { IsReady (kernel_of (T.memory store.old)) }
+    requires space { IsTestSpace (kernel_of (T.memory store.old)) space.0.0 }
+    requires number { number < 8 }
+    requires index { index < 8 }
+    ensures ready { IsReady (kernel_of (T.memory store.new)) }
+    ensures spaces { KeepsSpaces (kernel_of (T.memory store.old)) (kernel_of (T.memory store.new)) }
+{
+    let sealed = seal(store, space, page_number(index));
+    assert!(rt; sealed == line_of(plain, number, index).is_some());
+    plain::seal_page(plain, number, index);
+}
+
+// Takes a page away, or finds that it isn't mapped.
+fn unmap_one<T: Store>(
+    rt: &impl Abort,
+    store: &mut T,
+    space: Space,
+    plain: &mut Plain,
+    number: usize,
+    index: usize,
+)
+    requires ready { IsReady (kernel_of (T.memory store.old)) }
+    requires space { IsTestSpace (kernel_of (T.memory store.old)) space.0.0 }
+    requires number { number < 8 }
+    requires index { index < 8 }
+    ensures ready { IsReady (kernel_of (T.memory store.new)) }
+    ensures spaces { KeepsSpaces (kernel_of (T.memory store.old)) (kernel_of (T.memory store.new)) }
+{
+    let gone = take_away(store, space, page_number(index));
+    assert!(rt; gone == line_of(plain, number, index).is_some());
+    plain::take_page(plain, number, index);
+}
+
+// One call on one page of a space.
 fn act<T: Store>(
     rt: &impl Abort,
     store: &mut T,
     space: Space,
-    page: u32,
-    line: Option<Line>,
-    kind: u32,
-    byte: u8,
-) -> Option<Line>
+    plain: &mut Plain,
+    number: usize,
+    random: u32,
+)
     requires ready { IsReady (kernel_of (T.memory store.old)) }
-    requires space { IsSpace (forest_of (kernel_of (T.memory store.old))) [] space.0.0 }
-    requires page { page < 2 ^ 19 }
+    requires space { IsTestSpace (kernel_of (T.memory store.old)) space.0.0 }
+    requires number { number < 8 }
     ensures ready { IsReady (kernel_of (T.memory store.new)) }
     ensures spaces { KeepsSpaces (kernel_of (T.memory store.old)) (kernel_of (T.memory store.new)) }
-    ensures stays { IsSpace (forest_of (kernel_of (T.memory store.new))) [] space.0.0 }
 {
-    match kind % 8 {
-        0 | 1 | 2 => map_line(rt, store, space, page, line),
-        3 | 4 => put_line(rt, store, space, page, line, byte),
-        5 => seal_line(rt, store, space, page, line),
-        6 => own_line(rt, store, space, page, line),
-        _ => unmap_line(rt, store, space, page, line),
+    let index = random as usize / 2048 % 8;
+    let byte = (random / 131_072 % 128) as u8;
+    match random / 16384 % 8 {
+        0 | 1 | 2 => map_one(rt, store, space, plain, number, index),
+        3 | 4 => put_one(rt, store, space, plain, number, index, byte),
+        5 => seal_one(rt, store, space, plain, number, index),
+        6 => own_one(rt, store, space, plain, number, index),
+        _ => unmap_one(rt, store, space, plain, number, index),
     }
 }
 
-// One call on one page of one of the spaces, which is compared with its plain map then.
+// One call on one page of one of the spaces.
 fn act_on_one<T: Store>(
     rt: &impl Abort,
     store: &mut T,
@@ -281,23 +219,9 @@ fn act_on_one<T: Store>(
     ensures spaces { AreSpaces (kernel_of (T.memory store.new)) spaces.now }
 {
     let number = random as usize / 256 % 8;
-    if number >= spaces.len() {
-        return;
+    if number < spaces.len() {
+        act(rt, store, spaces[number], plain, number, random);
     }
-    let space = spaces[number];
-    let index = random as usize / 2048 % 8;
-    let line = line_of(plain, number, index);
-    let now = act(
-        rt,
-        store,
-        space,
-        page_number(index),
-        line,
-        random / 16384,
-        (random / 131_072 % 128) as u8,
-    );
-    set_line(plain, number, index, now);
-    look(rt, store, space, plain, number);
 }
 
 // Keeps one space more.
@@ -347,57 +271,170 @@ fn share_one<T: Store>(
     let space = spaces.as_slice()[number];
     match share_of(store, space) {
         Some(copy) => {
-            copy_lines(plain, number, count);
+            plain::copy_space(plain, number, count);
             keep(rt, spaces, copy);
         }
         None => panic!(rt; "no room"),
     }
 }
 
-// One turn of the walk.
-fn turn<T: Store>(
-    rt: &impl Abort,
-    store: &mut T,
-    spaces: &mut Vec<Space>,
-    plain: &mut Plain,
-    random: u32,
-)
-    requires ready { IsReady (kernel_of (T.memory store.old)) }
-    requires spaces { AreSpaces (kernel_of (T.memory store.old)) spaces.old.items }
-    ensures ready { IsReady (kernel_of (T.memory store.new)) }
-    ensures spaces { AreSpaces (kernel_of (T.memory store.new)) spaces.new.items }
+// A space, or the new one where it is the one that has gone.
+fn still_or_new<T: Store>(store: &T, space: Space, gone: Space, new: Space) -> Space
+    requires still { space.0.0 ≢ gone.0.0 → IsTestSpace (kernel_of (T.memory store.now)) space.0.0 }
+    requires new { IsTestSpace (kernel_of (T.memory store.now)) new.0.0 }
+    ensures { IsTestSpace (kernel_of (T.memory store.now)) result.0.0 }
 {
-    match random % 128 {
-        0 => add_one(rt, store, spaces),
-        1 | 2 => share_one(rt, store, spaces, plain, random),
-        _ => act_on_one(rt, store, spaces.as_slice(), plain, random),
+    if space.0.0 == gone.0.0 { new } else { space }
+}
+
+// The spaces, with a new one in place of one that has gone.
+fn with_new<T: Store>(
+    rt: &impl Abort,
+    alloc: Global,
+    store: &T,
+    spaces: &[Space],
+    gone: Space,
+    new: Space,
+) -> Vec<Space>
+    requires spaces { AreSpacesBut (kernel_of (T.memory store.now)) gone.0.0 spaces.now }
+    requires new { IsTestSpace (kernel_of (T.memory store.now)) new.0.0 }
+    ensures { AreSpaces (kernel_of (T.memory store.now)) result.items }
+{
+    let mut all = Vec::new(alloc);
+    for space in spaces {
+        keep(rt, &mut all, still_or_new(store, *space, gone, new));
+    }
+    all
+}
+
+// A space is dropped, and another one takes its number. The spaces.
+fn renew<T: Store>(
+    rt: &impl Abort,
+    alloc: Global,
+    store: &mut T,
+    spaces: &[Space],
+    gone: Space,
+) -> Vec<Space>
+    requires ready { IsReady (kernel_of (T.memory store.old)) }
+    requires spaces { AreSpaces (kernel_of (T.memory store.old)) spaces.now }
+    requires gone { IsTestSpace (kernel_of (T.memory store.old)) gone.0.0 }
+    ensures ready { IsReady (kernel_of (T.memory store.new)) }
+    ensures spaces { AreSpaces (kernel_of (T.memory store.new)) result.items }
+{
+    drop_one(store, gone);
+    match add_space(store) {
+        Some(new) => with_new(rt, alloc, store, spaces, gone, new),
+        None => panic!(rt; "no room"),
     }
 }
 
-// All spaces are compared with their plain maps.
+// One of the spaces is dropped, and another one takes its number.
+fn renew_one<T: Store>(
+    rt: &impl Abort,
+    alloc: Global,
+    store: &mut T,
+    spaces: Vec<Space>,
+    plain: &mut Plain,
+    random: u32,
+) -> Vec<Space>
+    requires ready { IsReady (kernel_of (T.memory store.old)) }
+    requires spaces { AreSpaces (kernel_of (T.memory store.old)) spaces.items }
+    ensures ready { IsReady (kernel_of (T.memory store.new)) }
+    ensures spaces { AreSpaces (kernel_of (T.memory store.new)) result.items }
+{
+    let number = random as usize / 256 % 8;
+    if number >= spaces.len() {
+        return spaces;
+    }
+    plain::clear_space(plain, number);
+    let gone = spaces.as_slice()[number];
+    renew(rt, alloc, store, spaces.as_slice(), gone)
+}
+
+// One turn of the walk. The spaces after it.
+fn turn<T: Store>(
+    rt: &impl Abort,
+    alloc: Global,
+    store: &mut T,
+    mut spaces: Vec<Space>,
+    plain: &mut Plain,
+    random: u32,
+) -> Vec<Space>
+    requires ready { IsReady (kernel_of (T.memory store.old)) }
+    requires spaces { AreSpaces (kernel_of (T.memory store.old)) spaces.items }
+    ensures ready { IsReady (kernel_of (T.memory store.new)) }
+    ensures spaces { AreSpaces (kernel_of (T.memory store.new)) result.items }
+{
+    match random % 128 {
+        0 => add_one(rt, store, &mut spaces),
+        1 | 2 => share_one(rt, store, &mut spaces, plain, random),
+        3 => return renew_one(rt, alloc, store, spaces, plain, random),
+        _ => act_on_one(rt, store, spaces.as_slice(), plain, random),
+    }
+    spaces
+}
+
+// Whether the tree of a space is well-formed.
+fn is_well<T: Store>(store: &T, space: Space) -> bool
+    requires ready { IsReady (kernel_of (T.memory store.now)) }
+    requires in_range { NodesInRange (kernel_of (T.memory store.now)) }
+    requires space { IsTestSpace (kernel_of (T.memory store.now)) space.0.0 }
+{
+    check_space(store, space)
+}
+
+// Whether the trees of all spaces are well-formed.
+fn are_well<T: Store>(store: &T, spaces: &[Space]) -> bool
+    requires ready { IsReady (kernel_of (T.memory store.now)) }
+    requires spaces { AreSpaces (kernel_of (T.memory store.now)) spaces.now }
+{
+    if !keys_in_range(store) {
+        return false;
+    }
+    for number in 0..spaces.len() {
+        if !is_well(store, spaces[number]) {
+            return false;
+        }
+    }
+    true
+}
+
+// All spaces are compared with what they are to map and to take, and their trees are looked at.
 fn look_at_all<T: Store>(rt: &impl Abort, store: &T, spaces: &[Space], plain: &Plain)
     requires ready { IsReady (kernel_of (T.memory store.now)) }
     requires spaces { AreSpaces (kernel_of (T.memory store.now)) spaces.now }
 {
     for number in 0..spaces.len().min(8) {
         look(rt, store, spaces[number], plain, number);
-        assert!(rt; count_mapped(store, spaces[number]) == count_lines(plain, number));
+    }
+    assert!(rt; takes_enough(store, plain, spaces.len().min(8) as u32));
+    assert!(rt; are_well(store, spaces));
+}
+
+// The numbers of mapped pages are compared.
+fn count_all<T: Store>(rt: &impl Abort, store: &T, spaces: &[Space], plain: &Plain)
+    requires ready { IsReady (kernel_of (T.memory store.now)) }
+    requires spaces { AreSpaces (kernel_of (T.memory store.now)) spaces.now }
+{
+    for number in 0..spaces.len().min(8) {
+        assert!(rt; count_mapped(store, spaces[number]) == plain::count_lines(plain, number));
     }
 }
 
-// 2,000 turns. All spaces are looked at after each 50.
+// 2,000 turns, each with a look at all spaces. Counting pages takes longer, and is done after each hundred.
 fn walks<T: Store>(rt: &impl Abort, alloc: Global, store: &mut T)
     requires ready { IsReady (kernel_of (T.memory store.old)) }
 {
     let mut spaces = Vec::new(alloc);
-    let mut plain = Plain { lines: [None; 64] };
+    let mut plain = plain::empty();
     add_one(rt, store, &mut spaces);
     let mut random = 20_261_201u32;
     for round in 0..2000u32 {
         random = random.wrapping_mul(1_664_525).wrapping_add(1_013_904_223);
-        turn(rt, store, &mut spaces, &mut plain, random / 16);
-        if round % 50 == 49 {
-            look_at_all(rt, store, spaces.as_slice(), &plain);
+        spaces = turn(rt, alloc, store, spaces, &mut plain, random / 16);
+        look_at_all(rt, store, spaces.as_slice(), &plain);
+        if round % 100 == 99 {
+            count_all(rt, store, spaces.as_slice(), &plain);
         }
     }
     assert!(rt; spaces.len() == 8);
