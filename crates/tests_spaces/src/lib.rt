@@ -10,6 +10,8 @@ mod damage;
 mod drops;
 pub mod guarded;
 #[cfg(test)]
+mod loading;
+#[cfg(test)]
 mod plain;
 #[cfg(test)]
 mod rows;
