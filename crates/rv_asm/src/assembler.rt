@@ -1,9 +1,10 @@
 //! From a source to a file.
 
-ghost use Rattle.std.specs.Prelude.{◌≡◌, Ok, IfOk, IfErr};
+ghost use Rattle.std.specs.Prelude.{◌≡◌, Ok, IfOk, IfErr, OnOk};
+ghost use Rattle.unix_model.specs.Texts.{lines_of};
 ghost use Rattle.rv_asm.specs.Files.{IsFile, Tells};
 ghost use Rattle.rv_asm.specs.Programs as model;
-ghost use Rattle.rv_asm.specs.Programs.{Program, assembled};
+ghost use Rattle.rv_asm.specs.Programs.{Program, Scan, assembled, scan_lines, start_scan};
 
 use crate::fault::{AsmFault, AsmKind};
 use crate::file::file_of;
@@ -44,5 +45,17 @@ pub fn assemble(alloc: Global, source: &[u8]) -> Result<Vec<u8>, AsmFault>
     match file_of(alloc, &program) {
         Ok(file) => Ok(file),
         Err(_) => Err(AsmFault::NoMemory),
+    }
+}
+
+/// Reads the front of a source, behind which more lines may follow: whether one of its lines is refused by itself (Syntax,
+/// DoubleLabel, TooLong).
+pub fn check_front(alloc: Global, source: &[u8]) -> Result<(), AsmFault>
+    ensures passed { OnOk result ((scan : Scan) × (scan_lines 1 start_scan (lines_of source.now) ≡ Ok scan)) }
+    ensures refused { IfErr result (λ fault. Tells fault (scan_lines 1 start_scan (lines_of source.now))) }
+{
+    match first_reading(alloc, source) {
+        Ok(_) => Ok(()),
+        Err(fault) => Err(fault),
     }
 }

@@ -24,6 +24,6 @@ mod scan;
 mod statement;
 mod text_statements;
 
-pub use assembler::assemble;
+pub use assembler::{assemble, check_front};
 pub use fault::{AsmFault, AsmKind};
 pub use laws::{halves_law, mnemonics_law, names_law, one_file_law, placed_law};
