@@ -1,0 +1,171 @@
+//! What one line of a bundle says.
+
+ghost use Rattle.std.specs.Prelude.{◌≡◌, ◌≤◌, ◌<◌, length, position, option_map, IfSome};
+ghost use Rattle.unix_model.specs.Texts as texts;
+ghost use Rattle.userland.specs.Programs.{source_named};
+ghost use Rattle.bundle.specs.EntryLines as model;
+ghost use Rattle.bundle.specs.Views.{halves_view, said_view, AreFew, what_view};
+
+use kn_text::number_of;
+use userland::program;
+
+/// The most lines behind an entry line.
+const MOST_LINES: u64 = 100_000;
+
+/// How the lines behind an entry line are read.
+#[derive(Clone, Copy, Debug, PartialEq, Eq)]
+pub enum Form {
+    /// As they are.
+    Text,
+    /// As hexadecimal digits.
+    Hex,
+    /// As a source of the assembler.
+    Asm,
+}
+
+/// What an entry is to be made from.
+#[derive(Clone, Copy)]
+pub enum What {
+    /// Nothing: it is a directory.
+    Directory,
+    /// The lines that follow.
+    Part { form: Form, lines: u32 },
+    /// A source of the userland.
+    Program { source: &'static [u8] },
+}
+
+/// What an entry line says.
+#[derive(Clone, Copy)]
+pub struct Said<'a> {
+    pub path: &'a [u8],
+    pub what: What,
+}
+
+/// The entry that a line says, or None where it says none.
+#[tactic(auto, unfolding(crate::specs::EntryLines::said))]
+pub fn entry_line(line: &[u8]) -> Option<Said<'_>>
+    ensures says { option_map said_view result ≡ model.said line.now }
+    ensures few { IfSome result (λ told. AreFew told.what) }
+{
+    match halves_of(line) {
+        Some((first, operands)) => said_by(first, operands),
+        None => None,
+    }
+}
+
+// The entry of a line's first word and what follows it.
+#[tactic(auto, unfolding(crate::specs::EntryLines::said_by))]
+fn said_by<'a>(first: &[u8], operands: &'a [u8]) -> Option<Said<'a>>
+    ensures says { option_map said_view result ≡ model.said_by first.now operands.now }
+    ensures few { IfSome result (λ told. AreFew told.what) }
+{
+    match first {
+        b"dir" => dir_line(operands),
+        b"text" => part_line(Form::Text, operands),
+        b"hex" => part_line(Form::Hex, operands),
+        b"asm" => part_line(Form::Asm, operands),
+        b"user" => user_line(operands),
+        _ => None,
+    }
+}
+
+// A directory.
+#[tactic(auto, unfolding(crate::specs::EntryLines::dir_line))]
+fn dir_line(operands: &[u8]) -> Option<Said<'_>>
+    ensures says { option_map said_view result ≡ model.dir_line operands.now }
+    ensures few { IfSome result (λ told. AreFew told.what) }
+{
+    match word(operands) {
+        Some(path) => Some(Said {
+            path,
+            what: What::Directory,
+        }),
+        None => None,
+    }
+}
+
+// A file whose lines follow.
+#[tactic(auto, unfolding(crate::specs::EntryLines::part_line))]
+fn part_line(form: Form, operands: &[u8]) -> Option<Said<'_>>
+    ensures says { option_map said_view result ≡ model.part_line form operands.now }
+    ensures few { IfSome result (λ told. AreFew told.what) }
+{
+    let (front, behind) = match halves_of(operands) {
+        Some(halves) => halves,
+        None => return None,
+    };
+    let path = match word(front) {
+        Some(path) => path,
+        None => return None,
+    };
+    match line_count(behind) {
+        Some(lines) => Some(Said {
+            path,
+            what: What::Part { form, lines },
+        }),
+        None => None,
+    }
+}
+
+// A program of the userland.
+#[tactic(auto, unfolding(crate::specs::EntryLines::user_line))]
+fn user_line(operands: &[u8]) -> Option<Said<'_>>
+    ensures says { option_map said_view result ≡ model.user_line operands.now }
+    ensures few { IfSome result (λ told. AreFew told.what) }
+{
+    let (front, behind) = match halves_of(operands) {
+        Some(halves) => halves,
+        None => return None,
+    };
+    let path = match word(front) {
+        Some(path) => path,
+        None => return None,
+    };
+    match program(behind) {
+        Some(source) => Some(Said {
+            path,
+            what: What::Program { source },
+        }),
+        None => None,
+    }
+}
+
+// How many lines follow.
+fn line_count(text: &[u8]) -> Option<u32>
+    ensures value { result ≡ texts.number_of 100000 text.now }
+    ensures most { IfSome result (λ lines. lines ≤ 100000) }
+{
+    match number_of(text, MOST_LINES) {
+        Ok(number) => Some(number as u32),
+        Err(_) => None,
+    }
+}
+
+// What stands before and behind the first space.
+fn halves_of(text: &[u8]) -> Option<(&[u8], &[u8])>
+    ensures { option_map halves_view result ≡ model.halves_of text.now }
+{
+    match first_space(text) {
+        Some(at) => Some((&text[..at], &text[at + 1..])),
+        None => None,
+    }
+}
+
+// Where the first space stands.
+fn first_space(text: &[u8]) -> Option<usize>
+    ensures place { result ≡ position model.is_space text.now }
+    ensures inside { IfSome result (λ at. at < length text.now) }
+{
+    text.iter().position(|byte| *byte == b' ')
+}
+
+// One word: some bytes without a space.
+#[tactic(auto, unfolding(crate::specs::EntryLines::word))]
+fn word(text: &[u8]) -> Option<&[u8]>
+    ensures { option_map (λ told. told.now) result ≡ model.word text.now }
+{
+    if text.is_empty() || first_space(text).is_some() {
+        return None;
+    }
+    Some(text)
+}
