@@ -1,9 +1,10 @@
 -- Domains and their lives, while a number is written in a root.
-use Rattle.std.proofs.Common.{◌≡◌, ◌≢◌, ◌≤◌, ℕ, Option, Some, None, true, false, List, [], ◌∷◌, refl, ap, sym, ◌∙◌, arith, ⊎_elim, if◌then◌else◌}
+use Rattle.std.proofs.Common.{◌≡◌, ◌≢◌, ◌≤◌, ℕ, Bool, Option, Some, None, true, false, List, [], ◌∷◌, refl, ap, sym, ◌∙◌, arith, ⊎_elim, if◌then◌else◌}
 use Rattle.std.proofs.Math.Path.{fun_ext}
 use Rattle.std.proofs.lemmas.Bool.{cases_Bool}
 use Rattle.kn_base.specs.declared.key.Key.{Key}
 use Rattle.unix_model.specs.Tables.{at, with_at}
+use Rattle.unix_model.proofs.TableLaws.{at-with_at}
 use Rattle.domain.specs.declared.types.State.{State}
 use Rattle.domain.specs.declared.types.Phase.{Phase}
 use Rattle.domain.specs.declared.types.Phase.TheVariants.{Run, Asked, Sent, Done, Exiting, Zombie}
@@ -11,17 +12,17 @@ use Rattle.domain.specs.declared.types.Answer.{Answer}
 use Rattle.domain.specs.Keys.{is_meter, node_in, word_in, count_in, words_in}
 use Rattle.domain.specs.Domains.{Domain, full_domain, domain_by, domain_at, words_of, node_words, Life, life_in, lives_by, state_by, phase_by, phase_number}
 use Rattle.domain.specs.Rules.{RowsGood, NobodyIn, written}
-use Rattle.domain.proofs.RowLaws.{here_at, other_at, changed_at, written_other, root_unnamed}
+use Rattle.domain.proofs.RowLaws.{here_at, other_at, changed_at, row_case, written_other, root_unnamed}
 
 -- the words that a Node key leads to, while another node changes
-words_other : (rows : ℕ → ℕ → Key) (n : ℕ) (row : ℕ → Key) (node : Option ℕ) → ((m : ℕ) → node ≡ Some m → m ≢ n) → words_of (with_at rows n row) node ≡ words_of rows node
+pub words_other : (rows : ℕ → ℕ → Key) (n : ℕ) (row : ℕ → Key) (node : Option ℕ) → ((m : ℕ) → node ≡ Some m → m ≢ n) → words_of (with_at rows n row) node ≡ words_of rows node
 words_other rows n row None apart = refl
 words_other rows n row (Some m) apart = ap node_words (other_at rows n m row (apart m refl))
 
-same_domain : (f g : ℕ → Key) (a b x y : ℕ → ℕ) → f ≡ g → a ≡ b → x ≡ y → domain_by f a x ≡ domain_by g b y
+pub same_domain : (f g : ℕ → Key) (a b x y : ℕ → ℕ) → f ≡ g → a ≡ b → x ≡ y → domain_by f a x ≡ domain_by g b y
 same_domain f g a b x y p q r = rw (p, q, r) refl
 
-a_root : (f : ℕ → Key) (a x : ℕ → ℕ) → is_meter (f 2) ≡ true → domain_by f a x ≡ full_domain f a x
+pub a_root : (f : ℕ → Key) (a x : ℕ → ℕ) → is_meter (f 2) ≡ true → domain_by f a x ≡ full_domain f a x
 a_root f a x e = rw e refl
 
 -- a row of a node that nobody names changes: its own domain changes, if it has one
@@ -51,7 +52,7 @@ live_meter rows root live = ⊎_elim
     (cases_Bool (is_meter (rows root 2)))
 
 -- the domain of a root, with another row in place of its own
-abbrev with_row : (ℕ → ℕ → Key) → ℕ → (ℕ → Key) → Domain
+abbrev pub with_row : (ℕ → ℕ → Key) → ℕ → (ℕ → Key) → Domain
 with_row rows root row = full_domain row (words_of rows (node_in (rows root 3))) (words_of rows (node_in (rows root 4)))
 
 pub root_domain : (rows : ℕ → ℕ → Key) (root : ℕ) → is_meter (rows root 2) ≡ true → at (domain_at rows) root ≡ with_row rows root (rows root)
@@ -215,3 +216,42 @@ root_word rows root live = ap (λ (d : Domain). d.word) (root_domain rows root (
 pub root_marks : (rows : ℕ → ℕ → Key) (root : ℕ) → (at (domain_at rows) root).live ≡ true → (at (domain_at rows) root).marks ≡ words_in (rows root 12)
 unfolding full_domain
 root_marks rows root live = ap (λ (d : Domain). d.marks) (root_domain rows root (live_meter rows root live))
+
+-- another row in place of a root's own, with the same keys at 2, 3 and 4
+pub root_row_set : (rows : ℕ → ℕ → Key) (root : ℕ) (row : ℕ → Key) (change : Domain → Domain) → RowsGood rows → is_meter (rows root 2) ≡ true
+    → row 2 ≡ rows root 2 → row 3 ≡ rows root 3 → row 4 ≡ rows root 4
+    → ((regs descriptors : ℕ → ℕ) → full_domain row regs descriptors ≡ change (full_domain (rows root) regs descriptors))
+    → domain_at (with_at rows root row) ≡ with_at (domain_at rows) root (change (at (domain_at rows) root))
+root_row_set rows root row change good meter second third fourth fields =
+    let nobody = root_unnamed rows root good meter in
+    domains_at rows root row nobody (λ h. nobody root 3 (sym (ap node_in third) ∙ h)) (λ h. nobody root 4 (sym (ap node_in fourth) ∙ h))
+    ∙ ap (with_at (domain_at rows) root)
+    (a_root row (words_of rows (node_in (row 3))) (words_of rows (node_in (row 4))) (ap is_meter second ∙ meter)
+    ∙ ap (λ k. full_domain row (words_of rows (node_in k)) (words_of rows (node_in (row 4)))) third
+    ∙ ap (λ k. full_domain row (words_of rows (node_in (rows root 3))) (words_of rows (node_in k))) fourth
+    ∙ fields (words_of rows (node_in (rows root 3))) (words_of rows (node_in (rows root 4)))
+    ∙ ap change (sym (root_domain rows root meter)))
+
+-- which of two values a test chooses, where they are equal if it holds
+chosen : (b : Bool) (x y z : Key) → (b ≡ true → x ≡ y) → (if b then x else z) ≡ (if b then y else z)
+chosen true x y z h = h refl
+chosen false x y z h = refl
+
+-- a row that is as much a root's, with the same key 6 if it is one
+pub lives_row_same : (rows fixed : ℕ → ℕ → Key) (n : ℕ) (row : ℕ → Key) → is_meter (row 2) ≡ is_meter (rows n 2) → (is_meter (rows n 2) ≡ true → row 6 ≡ rows n 6)
+    → lives_by (with_at rows n row) fixed ≡ lives_by rows fixed
+unfolding lives_by
+lives_row_same rows fixed n row second sixth = fun_ext (λ m.
+    row_case rows n row (λ (r : ℕ → Key). life_in (if is_meter (r 2) then r 6 else fixed m 6) ≡ life_in (if is_meter (rows m 2) then rows m 6 else fixed m 6)) m
+    (λ e.
+    ap (λ b. life_in (if b then row 6 else fixed m 6)) second
+    ∙ ap life_in (chosen (is_meter (rows n 2)) (row 6) (rows n 6) (fixed m 6) sixth)
+    ∙ ap (λ k. life_in (if is_meter (rows k 2) then rows k 6 else fixed m 6)) (sym e))
+    (λ d. refl))
+
+-- a root whose key behind the first six was written is one still
+pub still_live : (rows : ℕ → ℕ → Key) (root place : ℕ) (key : Key) → RowsGood rows → is_meter (rows root 2) ≡ true → 6 ≤ place → (at (domain_at (written rows root place key)) root).live ≡ true
+unfolding full_domain
+still_live rows root place key good meter low =
+    ap (λ (f : ℕ → Domain). (at f root).live) (root_written rows root place key good meter low)
+    ∙ ap (λ (d : Domain). d.live) (at-with_at (domain_at rows) root (with_row rows root (with_at (rows root) place key)))

@@ -1,3 +1,6 @@
 pub mod RowLaws
 pub mod DomainLaws
+pub mod FieldLaws
+pub mod WordLaws
 pub mod Writing
+pub mod Handing

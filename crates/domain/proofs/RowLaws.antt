@@ -3,10 +3,10 @@ use Rattle.std.proofs.Common.{◌≡◌, ◌≢◌, ◌<◌, ◌≤◌, ℕ, Som
 use Rattle.std.proofs.Math.Path.{fun_ext}
 use Rattle.std.proofs.lemmas.Bool.{cases_eq, eq-eqb, ne_eqb}
 use Rattle.kn_base.specs.declared.key.Key.{Key}
-use Rattle.kn_base.specs.declared.key.Key.TheVariants.{Number, Meter}
+use Rattle.kn_base.specs.declared.key.Key.TheVariants.{Null, Number, Meter}
 use Rattle.unix_model.specs.Tables.{at, with_at}
-use Rattle.domain.specs.Keys.{is_number, is_meter, node_in, word_in}
-use Rattle.domain.specs.Rules.{RowsGood, NumberFits, NobodyIn, written}
+use Rattle.domain.specs.Keys.{is_number, is_meter, node_in, segment_in, page_in, word_in, key_of_space}
+use Rattle.domain.specs.Rules.{RootGood, RowsGood, NumberFits, NobodyIn, written}
 
 pub here_at : {X : Type 0} (f : ℕ → X) (n : ℕ) (x : X) → with_at f n x n ≡ x
 unfolding with_at
@@ -75,6 +75,8 @@ rows_good_number rows root place key good meter low fits = record {
   roots = λ m h.
       let root_good = good.roots m (sym (ap is_meter (written_other rows root place key m 2 (λ e. absurd (omega arith)))) ∙ h) in
       record {
+        of_space = written_case rows root place key (λ k. k ≡ key_of_space (segment_in k)) m 0 (λ e. absurd (omega arith)) root_good.of_space;
+        no_buffer = written_case rows root place key (λ k. page_in k ≡ None → k ≡ Null) m 5 (λ e. absurd (omega arith)) root_good.no_buffer;
         numbers = λ j above below. written_case rows root place key (λ k. is_number k ≡ true) m j (λ e. fits.number) (root_good.numbers j above below);
         call_fits = written_case rows root place key (λ k. word_in k 0 < 256) m 9 (λ e. fits.call_fits (sym e)) root_good.call_fits;
         request_fits = written_case rows root place key (λ k. word_in k 2 ≤ 4096) m 10 (λ e. fits.request_fits (sym e)) root_good.request_fits;
@@ -86,3 +88,46 @@ rows_good_number rows root place key good meter low fits = record {
     was a i n = written_case rows root place key (λ k. node_in k ≡ Some n → node_in (rows a i) ≡ Some n) a i
         (λ e h. let no : None ≡ Some n = sym (number_no_node key fits.number) ∙ h in cc)
         (λ h. h)
+
+-- what holds of the new value, and of each old one, holds of the table with the new value
+pub row_case : {X : Type 0} (f : ℕ → X) (n : ℕ) (x : X) (P : X → Type 0) (m : ℕ) → (m ≡ n → P x) → (m ≢ n → P (f m)) → P (with_at f n x m)
+row_case f n x P m now before = ⊎_elim
+    (λ (e : m ≡ n). subst P (sym (ap (with_at f n x) e ∙ here_at f n x)) (now e))
+    (λ (d : m ≢ n). subst P (sym (other_at f n m x d)) (before d))
+    (cases_eq m n)
+
+-- a row whose keys name the nodes that they named before, in place of a node's own
+pub rows_good_same : (rows : ℕ → ℕ → Key) (n : ℕ) (row : ℕ → Key) → RowsGood rows → ((i : ℕ) → node_in (row i) ≡ node_in (rows n i))
+    → ((a i j : ℕ) → node_in (rows a i) ≡ Some n → j < 11 → is_number (row j) ≡ true) → (is_meter (row 2) ≡ true → RootGood row) → RowsGood (with_at rows n row)
+rows_good_same rows n row good names numbers root = record {
+  single = λ a i b j m h k. good.single a i b j m (was a i m h) (was b j m k);
+  plain = λ a i m j h below.
+      row_case rows n row (λ (r : ℕ → Key). is_number (r j) ≡ true) m (λ e. numbers a i j (was a i m h ∙ ap Some e) below) (λ d. good.plain a i m j (was a i m h) below);
+  roots = λ m h. row_case rows n row (λ (r : ℕ → Key). is_meter (r 2) ≡ true → RootGood r) m (λ e. root) (λ d. good.roots m) h;
+}
+  where
+    was : (a i m : ℕ) → node_in (with_at rows n row a i) ≡ Some m → node_in (rows a i) ≡ Some m
+    was a i m = row_case rows n row (λ (r : ℕ → Key). node_in (r i) ≡ Some m → node_in (rows a i) ≡ Some m) a
+        (λ e h. ap (λ k. node_in (rows k i)) e ∙ sym (names i) ∙ h)
+        (λ d h. h)
+
+-- a root's row with another key 0, or another key 5
+pub root_good_space : (row : ℕ → Key) (key : Key) → RootGood row → key ≡ key_of_space (segment_in key) → RootGood (with_at row 0 key)
+root_good_space row key good is = record {
+  of_space = row_case row 0 key (λ k. k ≡ key_of_space (segment_in k)) 0 (λ e. is) (λ d. good.of_space);
+  no_buffer = row_case row 0 key (λ k. page_in k ≡ None → k ≡ Null) 5 (λ e. absurd (omega arith)) (λ d. good.no_buffer);
+  numbers = λ place above below. row_case row 0 key (λ k. is_number k ≡ true) place (λ e. absurd (omega arith)) (λ d. good.numbers place above below);
+  call_fits = row_case row 0 key (λ k. word_in k 0 < 256) 9 (λ e. absurd (omega arith)) (λ d. good.call_fits);
+  request_fits = row_case row 0 key (λ k. word_in k 2 ≤ 4096) 10 (λ e. absurd (omega arith)) (λ d. good.request_fits);
+  answer_fits = row_case row 0 key (λ k. word_in k 2 ≤ 4096) 11 (λ e. absurd (omega arith)) (λ d. good.answer_fits);
+}
+
+pub root_good_buffer : (row : ℕ → Key) (key : Key) → RootGood row → (page_in key ≡ None → key ≡ Null) → RootGood (with_at row 5 key)
+root_good_buffer row key good is = record {
+  of_space = row_case row 5 key (λ k. k ≡ key_of_space (segment_in k)) 0 (λ e. absurd (omega arith)) (λ d. good.of_space);
+  no_buffer = row_case row 5 key (λ k. page_in k ≡ None → k ≡ Null) 5 (λ e. is) (λ d. good.no_buffer);
+  numbers = λ place above below. row_case row 5 key (λ k. is_number k ≡ true) place (λ e. absurd (omega arith)) (λ d. good.numbers place above below);
+  call_fits = row_case row 5 key (λ k. word_in k 0 < 256) 9 (λ e. absurd (omega arith)) (λ d. good.call_fits);
+  request_fits = row_case row 5 key (λ k. word_in k 2 ≤ 4096) 10 (λ e. absurd (omega arith)) (λ d. good.request_fits);
+  answer_fits = row_case row 5 key (λ k. word_in k 2 ≤ 4096) 11 (λ e. absurd (omega arith)) (λ d. good.answer_fits);
+}

@@ -1,16 +1,19 @@
 -- The domains of processes, by the numbers of their roots. A domain has three nodes: its root, one with the words of its
 -- registers and one with those of its descriptors. A root is told by the Meter key in it.
-use Rattle.std.specs.Prelude.{ℕ, ◌-◌, ◌/◌, ◌%◌, ◌==◌, Bool, true, false, Option, Some, None, List, [], ◌∷◌, replicate, if◌then◌else◌}
+use Rattle.std.specs.Prelude.{ℕ, ◌+◌, ◌-◌, ◌/◌, ◌%◌, ◌^◌, ◌==◌, ◌&&◌, nat_lt, Bool, true, false, Option, Some, None, is_some, List, [], ◌∷◌, ◌++◌, replicate, slice_index, if◌then◌else◌}
 use Rattle.kn_base.specs.declared.key.Key.{Key}
 use Rattle.kernel_tables.specs.Kernel.{Kernel}
 use Rattle.kernel_tables.specs.Rows.{domain_rows, fixed_rows}
+use Rattle.unix_model.specs.Tables.{tabulate}
 use Rattle.unix_model.specs.declared.calls.Request.{Request}
+use Rattle.unix_model.specs.declared.instructions.Regs.{Regs}
 use Rattle.domain.specs.declared.types.State.{State}
 use Rattle.domain.specs.declared.types.State.TheVariants.{Available, Running, Waiting}
 use Rattle.domain.specs.declared.types.Phase.{Phase}
 use Rattle.domain.specs.declared.types.Phase.TheVariants.{Run, Asked, Sent, Done, Exiting, Zombie}
+use Rattle.domain.specs.declared.types.Heads.{Heads}
 use Rattle.domain.specs.declared.types.Answer.{Answer}
-use Rattle.domain.specs.Keys.{is_meter, meter_in, node_in, segment_in, page_in, word_in, count_in, words_in}
+use Rattle.domain.specs.Keys.{is_meter, meter_in, root_in, node_in, segment_in, page_in, word_in, count_in, words_in}
 
 -- the numbers of states and phases; any other number is read as the last one
 abbrev pub state_by : ℕ → State
@@ -38,23 +41,39 @@ phase_number Done = 3
 phase_number Exiting = 4
 phase_number Zombie = 5
 
--- the words of a node, three in each key; zeros where there is no node
+-- the 33 words of a node, three in each key; zeros where there is no node
 unfoldable pub node_words : (ℕ → Key) → ℕ → ℕ
-node_words row = λ n. word_in (row (n / 3)) (n % 3)
+node_words row = λ n. if nat_lt n 33 then word_in (row (n / 3)) (n % 3) else 0
 
 abbrev pub words_of : (ℕ → ℕ → Key) → Option ℕ → ℕ → ℕ
 words_of rows None = λ n. 0
 words_of rows (Some node) = node_words (rows node)
 
--- A word of the descriptor node is the number of an open description and 1, or 0 where the descriptor is closed.
+-- A word of the descriptor node is the number of an open description and 1, or 0 where the descriptor is closed. Sixteen bits
+-- of the number are read.
 abbrev pub description_by : ℕ → Option ℕ
-description_by word = if word == 0 then None else Some (word - 1)
+description_by word = if word == 0 then None else Some ((word - 1) % 2 ^ 16)
 
--- What a domain is. `live` tells the roots of domains from all other nodes. `regs` are x0 to x31, and pc as word 32. The
--- heads are the process's own id and its parent's, the break, and the word that a wait answers. `marks` tell whether the
--- process is parked, and on what.
+abbrev pub description_word : Option ℕ → ℕ
+description_word None = 0
+description_word (Some number) = number + 1
+
+-- registers as 33 words, the last of which is pc, and back
+abbrev pub register_words : Regs → List ℕ
+register_words regs = regs.x ++ regs.pc ∷ []
+
+unfoldable pub words_by : Regs → ℕ → ℕ
+words_by regs = λ n. if nat_lt n 33 then slice_index (register_words regs) n else 0
+
+abbrev pub regs_by : (ℕ → ℕ) → Regs
+regs_by words = record { x = tabulate words 32; pc = words 32 }
+
+-- What a domain is. `live` tells the roots of domains from all other nodes, and `whole` those that have both other nodes,
+-- as all but zombies do. `regs` are x0 to x31, and pc as word 32. The heads are the process's own id and its parent's, the
+-- break, and the word that a wait answers. `marks` tell whether the process is parked, and on what.
 pub record Domain : Type 0 where
   pub live : Bool
+  pub whole : Bool
   pub slot : ℕ
   pub space : Option ℕ
   pub buffer : Option ℕ
@@ -73,6 +92,7 @@ pub record Domain : Type 0 where
 abbrev pub no_domain : Domain
 no_domain = record {
   live = false;
+  whole = false;
   slot = 0;
   space = None;
   buffer = None;
@@ -93,6 +113,7 @@ no_domain = record {
 unfoldable pub full_domain : (ℕ → Key) → (ℕ → ℕ) → (ℕ → ℕ) → Domain
 full_domain row regs descriptors = record {
   live = true;
+  whole = is_some (node_in (row 3)) && is_some (node_in (row 4));
   slot = meter_in (row 2);
   space = segment_in (row 0);
   buffer = page_in (row 5);
@@ -122,6 +143,26 @@ domain_at rows = λ root. domain_by (rows root) (words_of rows (node_in (rows ro
 
 abbrev pub domains : Kernel → ℕ → Domain
 domains kernel = domain_at (domain_rows kernel)
+
+-- the heads of a domain, and the domain with others
+abbrev pub heads_in : Domain → Heads
+heads_in domain = record { pid = domain.pid; parent = domain.parent; break_start = domain.break_start; break_end = domain.break_end; word = domain.word }
+
+abbrev pub with_heads : Domain → Heads → Domain
+with_heads domain heads = record domain {
+  pid = heads.pid;
+  parent = heads.parent;
+  break_start = heads.break_start;
+  break_end = heads.break_end;
+  word = heads.word;
+}
+
+-- The slot table, in the fixed nodes 11 to 14: which root the domain of a slot has.
+unfoldable pub roots_by : (ℕ → ℕ → Key) → ℕ → Option ℕ
+roots_by fixed = λ slot. if nat_lt slot 64 then root_in (fixed (11 + slot / 16) (slot % 16)) else None
+
+abbrev pub roots : Kernel → ℕ → Option ℕ
+roots kernel = roots_by (fixed_rows kernel)
 
 -- Whether a domain may be called, runs or waits, and how many of its calls were answered. Services have it too, whose
 -- roots are fixed nodes.

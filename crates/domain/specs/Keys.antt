@@ -2,7 +2,7 @@
 use Rattle.std.specs.Prelude.{ℕ, ◌*◌, Bool, true, false, Option, Some, None, List, [], ◌∷◌, drop}
 use Rattle.std.specs.Int.{from_le_bytes, w32, w64}
 use Rattle.kn_base.specs.declared.key.Key.{Key}
-use Rattle.kn_base.specs.declared.key.Key.TheVariants.{Number, Page, Node, Segment, Meter}
+use Rattle.kn_base.specs.declared.key.Key.TheVariants.{Null, Number, Page, Node, Segment, Domain, Meter}
 
 -- Twelve bytes of data, ..
 abbrev pub is_number : Key → Bool
@@ -32,7 +32,11 @@ abbrev pub meter_in : Key → ℕ
 meter_in (Meter slot) = slot
 meter_in _ = 0
 
--- what a key names: a row of keys, a space, a page
+-- what a key names: the root of a domain, a row of keys, a space, a page
+abbrev pub root_in : Key → Option ℕ
+root_in (Domain root) = Some root.0
+root_in _ = None
+
 abbrev pub node_in : Key → Option ℕ
 node_in (Node node) = Some node.0
 node_in _ = None
@@ -44,3 +48,8 @@ segment_in _ = None
 abbrev pub page_in : Key → Option ℕ
 page_in (Page page writable) = Some page.0
 page_in _ = None
+
+-- the key of a space, which has five levels
+abbrev pub key_of_space : Option ℕ → Key
+key_of_space None = Null
+key_of_space (Some space) = Segment (record { 0 = space }) 5

@@ -1,11 +1,15 @@
 -- What holds of the rows of domains from call to call.
-use Rattle.std.specs.Prelude.{◌≡◌, ℕ, ◌<◌, ◌≤◌, true, Some}
+use Rattle.std.specs.Prelude.{◌≡◌, ℕ, ◌<◌, ◌≤◌, true, Some, None}
 use Rattle.kn_base.specs.declared.key.Key.{Key}
+use Rattle.kn_base.specs.declared.key.Key.TheVariants.{Null}
 use Rattle.unix_model.specs.Tables.{at, with_at}
-use Rattle.domain.specs.Keys.{is_number, is_meter, node_in, word_in}
+use Rattle.domain.specs.Keys.{is_number, is_meter, node_in, segment_in, page_in, word_in, key_of_space}
 
--- Keys 6 to 12 of a root are numbers. The number of a call fits a byte, and no request and no answer brings more than a page.
+-- Key 0 of a root is that of a space or Null, and key 5 that of a page or Null. Keys 6 to 12 are numbers. The number of a call
+-- fits a byte, and no request and no answer brings more than a page.
 pub record RootGood (row : ℕ → Key) : Type 0 where
+  pub of_space : row 0 ≡ key_of_space (segment_in (row 0))
+  pub no_buffer : page_in (row 5) ≡ None → row 5 ≡ Null
   pub numbers : (place : ℕ) → 6 ≤ place → place ≤ 12 → is_number (row place) ≡ true
   pub call_fits : word_in (row 9) 0 < 256
   pub request_fits : word_in (row 10) 2 ≤ 4096
@@ -17,6 +21,12 @@ pub record RowsGood (rows : ℕ → ℕ → Key) : Type 0 where
   pub single : (a i b j node : ℕ) → node_in (rows a i) ≡ Some node → node_in (rows b j) ≡ Some node → (a ≡ b) × (i ≡ j)
   pub plain : (a i node j : ℕ) → node_in (rows a i) ≡ Some node → j < 11 → is_number (rows node j) ≡ true
   pub roots : (root : ℕ) → is_meter (rows root 2) ≡ true → RootGood (rows root)
+
+-- a Node key names the node
+pub record IsNamed (rows : ℕ → ℕ → Key) (node : ℕ) : Type 0 where
+  pub by : ℕ
+  pub place : ℕ
+  pub named : node_in (rows by place) ≡ Some node
 
 -- no Node key names the node
 abbrev pub NobodyIn : (ℕ → ℕ → Key) → ℕ → Type 0

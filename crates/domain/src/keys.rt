@@ -1,21 +1,22 @@
 //! Keys of the nodes of domains: how they are read and spelled.
 
-ghost use Rattle.std.specs.Prelude.{◌≡◌, ℕ, ◌<◌, ◌+◌, ◌*◌, true, [], ◌∷◌};
+ghost use Rattle.std.specs.Prelude.{◌≡◌, ◌≢◌, ℕ, ◌<◌, ◌+◌, ◌*◌, true, None, Some, [], ◌∷◌, MatchOption};
 ghost use Rattle.kn_base.specs.Memory.{Memory};
 ghost use Rattle.kernel_tables.specs.Kernel.{Kernel, kernel_of, Sized, IsSized};
 ghost use Rattle.kernel_tables.specs.Rows.{domain_rows, key_table};
 ghost use Rattle.space_bank.specs.Bank.{BankGood};
 ghost use Rattle.unix_model.specs.Tables.{at};
-ghost use Rattle.domain.specs.Keys.{words_in, word_in, count_in, is_number};
-ghost use Rattle.domain.specs.Domains.{domains, state_by, state_number, phase_by, phase_number};
+ghost use Rattle.domain.specs.Keys.{words_in, word_in, count_in, is_number, node_in, segment_in, page_in, root_in, key_of_space};
+ghost use Rattle.domain.specs.Sets.{number_in};
+ghost use Rattle.domain.specs.Domains.{domains, state_by, state_number, phase_by, phase_number, description_by};
 
 use super::types::{Phase, State};
 use kernel_tables::key_at;
-use kn_base::{Key, NodeId, Store};
+use kn_base::{Key, NodeId, PageId, Store};
 
-// The key at a place of a node, and Null where none is spelled.
+/// The key at a place of a node, and Null where none is spelled.
 #[tactic(auto, unfolding(kernel_tables::specs::Rows::key_table))]
-fn spelled_key<T: Store>(store: &T, node: NodeId, place: u8) -> Key
+pub fn spelled_key<T: Store>(store: &T, node: NodeId, place: u8) -> Key
     requires node { node.0 < (kernel_of (T.memory store.now)).nodes }
     requires place { place < 16 }
     ensures { result ≡ key_table (kernel_of (T.memory store.now)).keys (16 * node.0 + place) }
@@ -165,4 +166,84 @@ pub fn with_phase(key: Key, phase: Phase) -> Key
 {
     let [pid, parent, _] = words_in(key);
     number_of([pid, parent, phase_number(phase)])
+}
+
+/// The node that a Node key names.
+pub fn node_in(key: Key) -> Option<NodeId>
+    ensures { MatchOption result (node_in key ≡ None) (λ node. node_in key ≡ Some node.0) }
+{
+    match key {
+        Key::Node { id } => Some(id),
+        _ => None,
+    }
+}
+
+/// The space that a Segment key names.
+pub fn segment_in(key: Key) -> Option<NodeId>
+    ensures { MatchOption result (segment_in key ≡ None) (λ node. segment_in key ≡ Some node.0) }
+{
+    match key {
+        Key::Segment { id, .. } => Some(id),
+        _ => None,
+    }
+}
+
+/// The key of a space, or Null where there is none.
+pub fn space_key(space: Option<NodeId>) -> Key
+    ensures { result ≡ key_of_space (number_in space) }
+{
+    match space {
+        Some(id) => Key::Segment { id, height: 5 },
+        None => Key::Null,
+    }
+}
+
+/// The page that a Page key names.
+pub fn page_in(key: Key) -> Option<PageId>
+    ensures { MatchOption result (page_in key ≡ None) (λ page. page_in key ≡ Some page.0) }
+{
+    match key {
+        Key::Page { id, .. } => Some(id),
+        _ => None,
+    }
+}
+
+/// The root that a Domain key names.
+pub fn root_in(key: Key) -> Option<NodeId>
+    ensures { MatchOption result (root_in key ≡ None) (λ root. root_in key ≡ Some root.0) }
+{
+    match key {
+        Key::Domain { id } => Some(id),
+        _ => None,
+    }
+}
+
+/// The number with the process's id and its parent's, in place of one with others.
+pub fn with_ids(key: Key, pid: u32, parent: u32) -> Key
+    ensures words { words_in result ≡ pid ∷ parent ∷ word_in key 2 ∷ [] }
+    ensures number { is_number result ≡ true }
+{
+    let [_, _, phase] = words_in(key);
+    number_of([pid, parent, phase])
+}
+
+/// The word of a descriptor.
+pub fn description_word(description: Option<u16>) -> u32
+    ensures { MatchOption description (result ≡ 0) (λ number. result ≡ number + 1) }
+{
+    match description {
+        Some(number) => u32::from(number) + 1,
+        None => 0,
+    }
+}
+
+/// The open description of the word of a descriptor.
+pub fn description_by(word: u32) -> Option<u16>
+    ensures { result ≡ description_by word }
+{
+    if word == 0 {
+        None
+    } else {
+        Some(((word - 1) % 65536) as u16)
+    }
 }

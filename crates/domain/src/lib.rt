@@ -7,8 +7,15 @@
 mod keys;
 mod readers;
 mod setters;
+mod steps;
 mod types;
 
-pub use readers::{count_of, mark_words, phase_of, state_of};
-pub use setters::{set_mark_words, set_phase, set_state};
-pub use types::{Answer, Phase, State};
+pub use readers::slots::root_of;
+pub use readers::words::{descriptor, regs_of};
+pub use readers::{
+    answer_of, count_of, heads_of, mark_words, phase_of, request_of, space_of, state_of,
+};
+pub use setters::space::set_space;
+pub use setters::words::{set_descriptor, set_regs};
+pub use setters::{set_answer, set_heads, set_mark_words, set_phase, set_request, set_state};
+pub use types::{Answer, Heads, Phase, State};

@@ -25,6 +25,17 @@ pub enum Phase {
     Zombie,
 }
 
+/// What tells processes apart, and how far they are: the process's own id and its parent's, the break's start and the break,
+/// and the word that a wait for the process answers.
+#[derive(Clone, Copy, Debug, PartialEq, Eq)]
+pub struct Heads {
+    pub pid: u32,
+    pub parent: u32,
+    pub break_start: u32,
+    pub break_end: u32,
+    pub word: u32,
+}
+
 /// The answer to a system call: the value that it returns, and how many bytes go to which address.
 #[derive(Clone, Copy, Debug, PartialEq, Eq)]
 pub struct Answer {

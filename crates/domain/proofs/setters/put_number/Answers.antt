@@ -3,7 +3,10 @@ use Rattle.kernel_tables.specs.Kernel.{kernel_of}
 use Rattle.kernel_tables.specs.Rows.{domain_rows, of_domain, entry_at}
 use Rattle.domain.specs.Rules.{RowsGood}
 use Rattle.domain.proofs.RowLaws.{rows_good_number}
-use Rattle.domain.proofs.DomainLaws.{live_meter}
+use Rattle.domain.proofs.DomainLaws.{live_meter, still_live}
+use Rattle.domain.specs.Domains.{domain_at}
+use Rattle.unix_model.specs.Tables.{at}
+use Rattle.std.proofs.Common.{◌≡◌, true}
 use Rattle.domain.proofs.Writing.{root_mine, domain_below, domain_used, number_put, writes_number}
 use Rattle.std.proofs.Common.{subst}
 use Rattle.domain.proofs.setters.put_number.Goals as goal
@@ -43,3 +46,9 @@ returns-clause-others g c =
     ((c.requires.rows.roots c.args.root.0 (live_meter (domain_rows old) c.args.root.0 c.requires.live)).numbers c.args.place c.requires.low c.requires.high) c.requires.fits.number
     (number_put old new c.args.root.0 c.args.place c.args.key c.requires.good
     (root_mine old c.args.root.0 (live_meter (domain_rows old) c.args.root.0 c.requires.live)) (omega arith) c.write_key.ensures.written c.write_key.ensures.shares)
+
+pub returns-clause-live : goal.returns-clause-live
+returns-clause-live g c =
+    let old = kernel_of (g.T.Store.memory c.args.store.now) in
+    subst (λ rows. (at (domain_at rows) c.args.root.0).live ≡ true) (sym (returns-clause-put g c))
+    (still_live (domain_rows old) c.args.root.0 c.args.place c.args.key c.requires.rows (live_meter (domain_rows old) c.args.root.0 c.requires.live) c.requires.low)

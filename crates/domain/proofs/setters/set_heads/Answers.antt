@@ -1,0 +1,39 @@
+use Rattle.std.proofs.Common.{◌∙◌, [], ◌∷◌, ap, arith}
+use Rattle.kernel_tables.specs.Kernel.{kernel_of}
+use Rattle.kernel_tables.specs.Rows.{domain_rows, fixed_rows}
+use Rattle.domain.specs.Domains.{domain_at, lives_by}
+use Rattle.domain.specs.Keys.{word_in}
+use Rattle.domain.proofs.DomainLaws.{live_meter}
+use Rattle.domain.proofs.FieldLaws.{heads_set, lives_two}
+use Rattle.domain.proofs.setters.set_heads.Goals as goal
+
+pub put_numbers-requires-clause-first_fits : goal.put_numbers-requires-clause-first_fits
+put_numbers-requires-clause-first_fits g c = record {
+  number = c.with_ids-ids.ensures.number;
+  call_fits = λ e. absurd (omega arith);
+  request_fits = λ e. absurd (omega arith);
+  answer_fits = λ e. absurd (omega arith);
+}
+
+pub put_numbers-requires-clause-second_fits : goal.put_numbers-requires-clause-second_fits
+put_numbers-requires-clause-second_fits g c = record {
+  number = c.number_of-rest.ensures.number;
+  call_fits = λ e. absurd (omega arith);
+  request_fits = λ e. absurd (omega arith);
+  answer_fits = λ e. absurd (omega arith);
+}
+
+pub returns-clause-set : goal.returns-clause-set
+returns-clause-set g c =
+    let old = kernel_of (g.T.Store.memory c.args.store.now) in
+    ap domain_at c.put_numbers.ensures.put
+    ∙ heads_set (domain_rows old) c.args.root.0 c.with_ids-ids.result c.number_of-rest.result c.args.heads c.requires.rows (live_meter (domain_rows old) c.args.root.0 c.requires.live)
+    (c.with_ids-ids.ensures.words ∙ ap (λ key. c.args.heads.pid ∷ c.args.heads.parent ∷ word_in key 2 ∷ []) c.root_key.ensures) c.number_of-rest.ensures.words
+
+pub returns-clause-lives : goal.returns-clause-lives
+returns-clause-lives g c =
+    let old = kernel_of (g.T.Store.memory c.args.store.now) in
+    let new = kernel_of (g.T.Store.memory c.put_numbers.new.store) in
+    ap (λ rows. lives_by rows (fixed_rows new)) c.put_numbers.ensures.put
+    ∙ lives_two (domain_rows old) (fixed_rows new) c.args.root.0 7 8 c.with_ids-ids.result c.number_of-rest.result (omega arith) (omega arith)
+    ∙ ap (lives_by (domain_rows old)) c.put_numbers.ensures.others.fixed_now

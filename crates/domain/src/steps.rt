@@ -1,0 +1,25 @@
+//! The steps of which calls that write in domains are made.
+
+ghost use Rattle.std.specs.Prelude.{◌≡◌, ℕ, ◌<◌, true, [], ◌∷◌};
+ghost use Rattle.kn_base.specs.Memory.{Memory};
+ghost use Rattle.kernel_tables.specs.Kernel.{Kernel, kernel_of};
+ghost use Rattle.kernel_tables.specs.Rows.{entry_at, of_domain};
+ghost use Rattle.kernel_tables.specs.Blocks.{key_block, ChangesBlocks};
+ghost use Rattle.space_bank.specs.Bank.{BankGood};
+ghost use Rattle.kernel_forest.specs.Moves.{PutsRow};
+
+use kn_base::{Key, NodeId, Store};
+use space_bank::write_key;
+
+/// Writes a key at a place of a node of a domain.
+pub fn put_row<T: Store>(store: &mut T, node: NodeId, place: u8, key: Key)
+    requires good { BankGood (kernel_of (T.memory store.old)) }
+    requires mine { of_domain (entry_at (kernel_of (T.memory store.old)).node_entries node.0) ≡ true }
+    requires place { place < 16 }
+    ensures put { PutsRow (kernel_of (T.memory store.old)) (kernel_of (T.memory store.new)) node.0 place key }
+    ensures good { BankGood (kernel_of (T.memory store.new)) }
+    ensures blocks { ChangesBlocks (T.blocks store.old) (T.blocks store.new) (key_block (kernel_of (T.memory store.old)).pages node.0 ∷ []) }
+    ensures keeps { T.keeps store.old store.new }
+{
+    write_key(store, node, place, key);
+}
