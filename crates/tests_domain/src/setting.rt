@@ -1,0 +1,59 @@
+//! Calls on a domain, one after the other, each proved from what the one before it promises.
+
+ghost use Rattle.std.specs.Prelude.{◌≡◌, ◌≤◌, ℕ, true};
+ghost use Rattle.kn_base.specs.Memory.{Memory};
+ghost use Rattle.kernel_tables.specs.Kernel.{Kernel, kernel_of};
+ghost use Rattle.kernel_tables.specs.Rows.{domain_rows};
+ghost use Rattle.space_bank.specs.Bank.{BankGood};
+ghost use Rattle.unix_model.specs.Tables.{at, with_at};
+ghost use Rattle.domain.specs.declared.types.Phase.TheVariants.{Done, Sent};
+ghost use Rattle.domain.specs.declared.types.State.TheVariants.{Waiting};
+ghost use Rattle.domain.specs.Rules.{RowsGood};
+ghost use Rattle.domain.specs.Domains.{domains, lives};
+
+use domain::{Answer, Phase, State, set_answer, set_phase, set_request, set_state};
+use kn_base::{NodeId, Store};
+use unix_model::Request;
+
+/// Sets the phase of a domain ten times.
+#[tactic(auto, using(unix_model::proofs::TableLaws::tables))]
+pub fn ten_phases<T: Store>(store: &mut T, root: NodeId)
+    requires good { BankGood (kernel_of (T.memory store.old)) }
+    requires rows { RowsGood (domain_rows (kernel_of (T.memory store.old))) }
+    requires live { (at (domains (kernel_of (T.memory store.old))) root.0).live ≡ true }
+    ensures set { let old = domains (kernel_of (T.memory store.old)) in domains (kernel_of (T.memory store.new)) ≡ with_at old root.0 (record (at old root.0) { phase = Done }) }
+    ensures lives { lives (kernel_of (T.memory store.new)) ≡ lives (kernel_of (T.memory store.old)) }
+    ensures good { BankGood (kernel_of (T.memory store.new)) }
+    ensures rows { RowsGood (domain_rows (kernel_of (T.memory store.new))) }
+{
+    set_phase(store, root, Phase::Asked);
+    set_phase(store, root, Phase::Sent);
+    set_phase(store, root, Phase::Done);
+    set_phase(store, root, Phase::Run);
+    set_phase(store, root, Phase::Asked);
+    set_phase(store, root, Phase::Sent);
+    set_phase(store, root, Phase::Done);
+    set_phase(store, root, Phase::Exiting);
+    set_phase(store, root, Phase::Run);
+    set_phase(store, root, Phase::Done);
+}
+
+/// A request is made: the request, the phase and the state are set, and the registers.
+#[tactic(auto, using(unix_model::proofs::TableLaws::tables))]
+pub fn make_request<T: Store>(store: &mut T, root: NodeId, request: Request, answer: Answer)
+    requires good { BankGood (kernel_of (T.memory store.old)) }
+    requires rows { RowsGood (domain_rows (kernel_of (T.memory store.old))) }
+    requires live { (at (domains (kernel_of (T.memory store.old))) root.0).live ≡ true }
+    requires length { request.length ≤ 4096 }
+    requires answer { answer.length ≤ 4096 }
+    ensures set { let old = domains (kernel_of (T.memory store.old)) in domains (kernel_of (T.memory store.new)) ≡ with_at old root.0 (record (at old root.0) { phase = Sent; request = request; answer = answer }) }
+    ensures lives { let old = lives (kernel_of (T.memory store.old)) in lives (kernel_of (T.memory store.new)) ≡ with_at old root.0 (record { state = Waiting; count = 7 }) }
+    ensures rows { RowsGood (domain_rows (kernel_of (T.memory store.new))) }
+    ensures good { BankGood (kernel_of (T.memory store.new)) }
+    ensures keeps { T.keeps store.old store.new }
+{
+    set_request(store, root, request);
+    set_answer(store, root, answer);
+    set_phase(store, root, Phase::Sent);
+    set_state(store, root, State::Waiting, 7);
+}
