@@ -4,3 +4,5 @@ pub mod FieldLaws
 pub mod WordLaws
 pub mod Writing
 pub mod Handing
+pub mod BlockSets
+pub mod Pages

@@ -3,3 +3,4 @@ pub mod Keys
 pub mod Domains
 pub mod Rules
 pub mod Sets
+pub mod Buffers

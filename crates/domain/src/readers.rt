@@ -1,5 +1,6 @@
 //! What is read of a domain, by its root.
 
+pub mod buffer;
 pub mod slots;
 pub mod words;
 

@@ -1,5 +1,6 @@
 //! What is written in a domain, by its root.
 
+pub mod buffer;
 pub mod space;
 pub mod words;
 
