@@ -6,3 +6,7 @@ pub mod Writing
 pub mod Handing
 pub mod BlockSets
 pub mod Pages
+pub mod Filling
+pub mod FillingRoot
+pub mod Born
+pub mod Making

@@ -131,3 +131,11 @@ root_good_buffer row key good is = record {
   request_fits = row_case row 5 key (λ k. word_in k 2 ≤ 4096) 10 (λ e. absurd (omega arith)) (λ d. good.request_fits);
   answer_fits = row_case row 5 key (λ k. word_in k 2 ≤ 4096) 11 (λ e. absurd (omega arith)) (λ d. good.answer_fits);
 }
+
+-- what holds of the key that was written, at its place, and of the key that stood at a place holds after the write
+pub written_both : (rows : ℕ → ℕ → Key) (node place : ℕ) (key : Key) (P : Key → Type 0) (m j : ℕ) → (m ≡ node → j ≡ place → P key) → P (rows m j) → P (written rows node place key m j)
+written_both rows node place key P m j here before = go (at_place rows node place key m j)
+  where
+    go : At rows node place key m j → P (written rows node place key m j)
+    go (there a b e) = subst P (sym e) (here a b)
+    go (as_before e) = subst P (sym e) before

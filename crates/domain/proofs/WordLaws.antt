@@ -19,10 +19,10 @@ use Rattle.domain.proofs.RowLaws.{here_at, other_at, changed_at, row_case, meter
 use Rattle.domain.proofs.FieldLaws.{root_whole}
 use Rattle.domain.proofs.DomainLaws.{live_meter, words_other, same_domain, a_root, root_domain, lives_row_same, first_word, second_word, third_word}
 
-no_root : (f : ℕ → Key) (a x : ℕ → ℕ) → is_meter (f 2) ≡ false → domain_by f a x ≡ no_domain
+pub no_root : (f : ℕ → Key) (a x : ℕ → ℕ) → is_meter (f 2) ≡ false → domain_by f a x ≡ no_domain
 no_root f a x e = rw e refl
 
-number_no_meter : (key : Key) → is_number key ≡ true → is_meter key ≡ false
+pub number_no_meter : (key : Key) → is_number key ≡ true → is_meter key ≡ false
 number_no_meter (Number body) number = refl
 number_no_meter _ number = cc
 

@@ -76,13 +76,13 @@ unfolding rows
 row_key kernel node place mine low = rw (mine, lt-ltb place 16 low) refl
 
 -- a number names nothing
-number_outside : (outside : Outside) (key : Key) → is_number key ≡ true → and_outside outside key ≡ outside
+pub number_outside : (outside : Outside) (key : Key) → is_number key ≡ true → and_outside outside key ≡ outside
 number_outside outside (Number body) number =
     ap (λ p. let o : Outside = record { pages = p; nodes = λ id. outside.nodes id + 0 } in o) (fun_ext (λ id. add-zero (outside.pages id)))
     ∙ ap (λ n. let o : Outside = record { pages = outside.pages; nodes = n } in o) (fun_ext (λ id. add-zero (outside.nodes id)))
 number_outside outside _ number = cc
 
-number_nothing : (key : Key) → is_number key ≡ true → NamesNothing (Some key)
+pub number_nothing : (key : Key) → is_number key ≡ true → NamesNothing (Some key)
 number_nothing (Number body) number = tt
 number_nothing _ number = cc
 
@@ -155,3 +155,12 @@ same_block pages more node e before after = both_change before (λ block among. 
 pub fixed_key : (kernel : Kernel) (node place : ℕ) → BankGood kernel → node < 15 → place < 16 → key_table kernel.keys (16 * node + place) ≡ fixed_rows kernel node place
 unfolding rows
 fixed_key kernel node place good few low = rw (good.nodes.fixed node few, lt-ltb place 16 low) refl
+
+-- a key is written in a fixed node
+fixed_none : (entry : Entry NodeOwner) → entry ≡ Fixed → tree_in node_tree entry ≡ None
+fixed_none entry e = ap (tree_in node_tree) e
+
+pub slot_put : (old new : Kernel) (node place : ℕ) (key : Key) → BankGood old → node < 15 → place < 16 → new ≡ key_written old node place key → ExchangesKeys old new node place key → PutsRow old new node place key
+unfolding owner_of
+slot_put old new node place key good few low e exchanges =
+    puts_row old new node place key good (let n = good.sized.all_nodes in omega arith) (fixed_none (entry_at old.node_entries node) (good.nodes.fixed node few)) low e exchanges

@@ -4,3 +4,4 @@ pub mod Domains
 pub mod Rules
 pub mod Sets
 pub mod Buffers
+pub mod Life

@@ -5,11 +5,13 @@
 #![tactic(auto)]
 
 mod keys;
+mod life;
 mod readers;
 mod setters;
 mod steps;
 mod types;
 
+pub use life::new_domain;
 pub use readers::buffer::read_buffer;
 pub use readers::slots::root_of;
 pub use readers::words::{descriptor, regs_of};

@@ -1,5 +1,6 @@
-use Rattle.kernel_tables.specs.Kernel.{kernel_of}
-use Rattle.kernel_tables.specs.Rows.{entry_at}
+use Rattle.std.proofs.Common.{◌∙◌, ap}
+use Rattle.kernel_tables.specs.Kernel.{Kernel, kernel_of}
+use Rattle.kernel_tables.specs.Rows.{entry_at, of_domain}
 use Rattle.domain.proofs.Writing.{domain_below, domain_used, number_put}
 use Rattle.domain.proofs.steps.put_row.Goals as goal
 
@@ -13,3 +14,6 @@ pub returns-clause-put : goal.returns-clause-put
 returns-clause-put g c =
     number_put (kernel_of (g.T.Store.memory c.args.store.now)) (kernel_of (g.T.Store.memory c.write_key.new.store)) c.args.node.0 c.args.place c.args.key
     c.requires.good c.requires.mine c.requires.place c.write_key.ensures.written c.write_key.ensures.shares
+
+pub returns-clause-mine : goal.returns-clause-mine
+returns-clause-mine g c = ap (λ (k : Kernel). of_domain (entry_at k.node_entries c.args.node.0)) c.write_key.ensures.written ∙ c.requires.mine

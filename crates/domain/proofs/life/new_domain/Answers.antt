@@ -1,0 +1,64 @@
+use Rattle.std.proofs.Common.{ℕ, ◌≡◌, ◌∙◌, ◌+◌, ◌<◌, ap, arith, rules}
+use Rattle.kn_base.specs.declared.key.Key.{Key}
+use Rattle.kernel_tables.specs.Kernel.{Kernel, kernel_of}
+use Rattle.kernel_tables.specs.Rows.{of_domain}
+use Rattle.domain.proofs.Born.{fresh_null}
+use Rattle.domain.proofs.Making.{makes_domain, made_good}
+use Rattle.domain.proofs.life.new_domain.Goals as goal
+
+pub returns-clause-keeps : goal.returns-clause-keeps
+returns-clause-keeps g c = search (g.met.T.Store.keeps_trans, rules) depth 14
+
+pub returns-clause-made : goal.returns-clause-made
+returns-clause-made g c =
+    makes_domain (kernel_of (g.T.Store.memory c.args.store.now)) (kernel_of (g.T.Store.memory c.take_row-regs.new.store)) (kernel_of (g.T.Store.memory c.zero_keys.new.store)) (kernel_of (g.T.Store.memory c.take_row-descriptors.new.store)) (kernel_of (g.T.Store.memory c.zero_keys-2.new.store)) (kernel_of (g.T.Store.memory c.take_row-root.new.store)) (kernel_of (g.T.Store.memory c.fill_root.new.store)) (kernel_of (g.T.Store.memory c.put_slot.new.store)) c.args.slot c.args.space.0 c.take_row-regs.result.0 c.take_row-descriptors.result.0 c.take_row-root.result.0
+    c.requires.rows c.fill_root.ensures.good c.requires.slot c.requires.free c.requires.shares.0 c.requires.shares.1 c.requires.shares.2
+    c.take_row-regs.ensures.taken c.take_row-regs.ensures.was_free c.zero_keys.ensures.filled c.take_row-descriptors.ensures.taken c.take_row-descriptors.ensures.was_free c.zero_keys-2.ensures.filled
+    c.take_row-root.ensures.taken c.take_row-root.ensures.was_free c.fill_root.ensures.filled c.put_slot.ensures.put
+
+pub returns-clause-rows : goal.returns-clause-rows
+returns-clause-rows g c =
+    made_good (kernel_of (g.T.Store.memory c.args.store.now)) (kernel_of (g.T.Store.memory c.take_row-regs.new.store)) (kernel_of (g.T.Store.memory c.zero_keys.new.store)) (kernel_of (g.T.Store.memory c.take_row-descriptors.new.store)) (kernel_of (g.T.Store.memory c.zero_keys-2.new.store)) (kernel_of (g.T.Store.memory c.take_row-root.new.store)) (kernel_of (g.T.Store.memory c.fill_root.new.store)) (kernel_of (g.T.Store.memory c.put_slot.new.store)) c.args.slot c.args.space.0 c.take_row-regs.result.0 c.take_row-descriptors.result.0 c.take_row-root.result.0
+    c.requires.rows c.fill_root.ensures.good c.requires.slot c.requires.free c.requires.shares.0 c.requires.shares.1 c.requires.shares.2
+    c.take_row-regs.ensures.taken c.take_row-regs.ensures.was_free c.zero_keys.ensures.filled c.take_row-descriptors.ensures.taken c.take_row-descriptors.ensures.was_free c.zero_keys-2.ensures.filled
+    c.take_row-root.ensures.taken c.take_row-root.ensures.was_free c.fill_root.ensures.filled c.put_slot.ensures.put
+
+pub take_row-descriptors-requires-clause-room : goal.take_row-descriptors-requires-clause-room
+take_row-descriptors-requires-clause-room g c =
+    let a = c.take_row-regs.ensures.taken.number in
+    let b = ap (λ (k : Kernel). k.machine.nodes_taken) c.zero_keys.ensures.filled.rest in
+    let d = ap (λ (k : Kernel). k.nodes) c.take_row-regs.ensures.taken.rest in
+    let e = ap (λ (k : Kernel). k.nodes) c.zero_keys.ensures.filled.rest in
+    let room = c.requires.room in
+    omega arith
+
+pub take_row-root-requires-clause-room : goal.take_row-root-requires-clause-room
+take_row-root-requires-clause-room g c =
+    let a = c.take_row-regs.ensures.taken.number in
+    let b = ap (λ (k : Kernel). k.machine.nodes_taken) c.zero_keys.ensures.filled.rest in
+    let d = ap (λ (k : Kernel). k.nodes) c.take_row-regs.ensures.taken.rest in
+    let e = ap (λ (k : Kernel). k.nodes) c.zero_keys.ensures.filled.rest in
+    let a2 = c.take_row-descriptors.ensures.taken.number in
+    let b2 = ap (λ (k : Kernel). k.machine.nodes_taken) c.zero_keys-2.ensures.filled.rest in
+    let d2 = ap (λ (k : Kernel). k.nodes) c.take_row-descriptors.ensures.taken.rest in
+    let e2 = ap (λ (k : Kernel). k.nodes) c.zero_keys-2.ensures.filled.rest in
+    let room = c.requires.room in
+    omega arith
+
+pub zero_keys-requires-clause-mine : goal.zero_keys-requires-clause-mine
+zero_keys-requires-clause-mine g c = ap of_domain c.take_row-regs.ensures.taken.entry
+
+pub zero_keys-requires-clause-nulls : goal.zero_keys-requires-clause-nulls
+zero_keys-requires-clause-nulls g c = λ place low. ap (λ (r : ℕ → Key). r place) (fresh_null (kernel_of (g.T.Store.memory c.args.store.now)) (kernel_of (g.T.Store.memory c.take_row-regs.new.store)) c.take_row-regs.result.0 c.take_row-regs.ensures.taken)
+
+pub zero_keys-requires-2-clause-mine : goal.zero_keys-requires-2-clause-mine
+zero_keys-requires-2-clause-mine g c = ap of_domain c.take_row-descriptors.ensures.taken.entry
+
+pub zero_keys-requires-2-clause-nulls : goal.zero_keys-requires-2-clause-nulls
+zero_keys-requires-2-clause-nulls g c = λ place low. ap (λ (r : ℕ → Key). r place) (fresh_null (kernel_of (g.T.Store.memory c.zero_keys.new.store)) (kernel_of (g.T.Store.memory c.take_row-descriptors.new.store)) c.take_row-descriptors.result.0 c.take_row-descriptors.ensures.taken)
+
+pub fill_root-requires-clause-mine : goal.fill_root-requires-clause-mine
+fill_root-requires-clause-mine g c = ap of_domain c.take_row-root.ensures.taken.entry
+
+pub fill_root-requires-clause-nulls : goal.fill_root-requires-clause-nulls
+fill_root-requires-clause-nulls g c = fresh_null (kernel_of (g.T.Store.memory c.zero_keys-2.new.store)) (kernel_of (g.T.Store.memory c.take_row-root.new.store)) c.take_row-root.result.0 c.take_row-root.ensures.taken
