@@ -26,7 +26,7 @@ unfolding with_at
 other f n k x apart = rw (ne_eqb k n apart) refl
 
 -- a table that is as another one but at a place
-changed_at : {X : Type 0} (f g : ℕ → X) (n : ℕ) (x : X) → g n ≡ x → ((k : ℕ) → k ≢ n → g k ≡ f k) → g ≡ with_at f n x
+pub changed_at : {X : Type 0} (f g : ℕ → X) (n : ℕ) (x : X) → g n ≡ x → ((k : ℕ) → k ≢ n → g k ≡ f k) → g ≡ with_at f n x
 changed_at f g n x there same = fun_ext (λ k. ⊎_elim
     (λ (e : k ≡ n). ap g e ∙ there ∙ sym (ap (with_at f n x) e ∙ here f n x))
     (λ (d : k ≢ n). same k d ∙ sym (other f n k x d))

@@ -1,13 +1,19 @@
 -- How the flat state goes along with a change of the machine, each law as one statement.
-use Rattle.std.specs.Prelude.{◌≡◌, ◌≢◌, ℕ, Option, Some, None, List}
+use Rattle.std.specs.Prelude.{◌≡◌, ◌≢◌, ◌<◌, ℕ, Some, None, length, slice_set}
 use Rattle.kn_base.specs.declared.key.Key.{Key}
 use Rattle.kernel_tables.specs.declared.inode.Inode.{Inode}
 use Rattle.kernel_tables.specs.declared.description.Description.{Description}
-use Rattle.unix_model.specs.Files.{Files, with_inode, with_description}
-use Rattle.unix_model.specs.State.{Unix, with_process, without_process, with_files}
+use Rattle.kernel_tables.specs.declared.row.Row.{Row}
+use Rattle.kernel_tables.specs.Kernel.{Kernel, first_page, memory_page}
+use Rattle.kernel_tables.specs.Rows.{KeepsRows}
+use Rattle.kernel_forest.specs.Trees.{forest_of}
+use Rattle.file_tables.specs.Laws.{WritesFiles}
+use Rattle.unix_model.specs.Files.{with_inode, with_description}
+use Rattle.unix_model.specs.State.{with_process, without_process, with_files}
 use Rattle.unix_model.specs.Tables.{at, with_at}
-use Rattle.domain.specs.Domains.{Domain, Life}
-use Rattle.kernel_machine.specs.Machine.{KernelMachine}
+use Rattle.domain.specs.Domains.{Domain, Life, domains, lives}
+use Rattle.domain.specs.Sets.{WritesNumbers, HandsOver}
+use Rattle.kernel_machine.specs.Machine.{KernelMachine, machine_of, inodes_of, descriptions_of, page_owner_of, held}
 use Rattle.kernel_machine.specs.View.{view, process_in, inode_in, description_in, files_in}
 
 -- the slot alone has this root
@@ -72,3 +78,46 @@ WordsChanged =
     (machine : KernelMachine) (next_pid position promised : ℕ)
     → view (record machine { words = record machine.words { next_pid = next_pid; position = position; promised = promised } })
     ≡ record (view machine) { next_pid = next_pid; position = position }
+
+-- ---- what calls change of the machine
+
+-- Numbers, or a key, were written in a domain: domains and lives have changed, and nothing else of the machine.
+abbrev pub NumbersWritten : Type 0
+NumbersWritten =
+    (old new : Kernel) → WritesNumbers old new → machine_of new ≡ record (machine_of old) { lives = lives new; domains = domains new }
+
+abbrev pub KeyHandedOver : Type 0
+KeyHandedOver =
+    (old new : Kernel) (key was : Key) → HandsOver old new key was
+    → machine_of new ≡ record (machine_of old) { lives = lives new; domains = domains new }
+
+-- Rows of files were written: inodes and descriptions have changed, and nothing else.
+abbrev pub FilesWritten : Type 0
+FilesWritten =
+    (old new : Kernel) → WritesFiles old new
+    → machine_of new ≡ record (machine_of old) { inodes = inodes_of new; descriptions = descriptions_of new }
+
+-- One row of the table of inodes, or of descriptions, is another one now.
+abbrev pub InodeWritten : Type 0
+InodeWritten =
+    (old new : Kernel) (number : ℕ) (row : Row Inode) → number < length old.inodes
+    → new ≡ record old { inodes = slice_set old.inodes number row }
+    → machine_of new ≡ record (machine_of old) { inodes = with_at (inodes_of old) number (held row) }
+
+abbrev pub DescriptionWritten : Type 0
+DescriptionWritten =
+    (old new : Kernel) (number : ℕ) (row : Row Description) → number < length old.descriptions
+    → new ≡ record old { descriptions = slice_set old.descriptions number row }
+    → machine_of new ≡ record (machine_of old) { descriptions = with_at (descriptions_of old) number (held row) }
+
+-- A call on spaces leaves domains, slots, lives and files.
+abbrev pub SpacesChanged : Type 0
+SpacesChanged =
+    (old new : Kernel) → KeepsRows old new → new.inodes ≡ old.inodes → new.descriptions ≡ old.descriptions
+    → machine_of new
+    ≡ record (machine_of old) {
+      forest = forest_of new;
+      page_bytes = memory_page new;
+      page_owner = page_owner_of (first_page new.size) new.page_entries;
+      words = new.machine;
+    }

@@ -1,8 +1,13 @@
 //! The machine that the kernel's tables hold, the flat state that it stands for, and what holds of it between turns.
 #![tactic(auto)]
 
+mod changes;
 mod views;
 
+pub use changes::{
+    description_written, files_written, inode_written, key_handed_over, numbers_written,
+    spaces_changed,
+};
 pub use views::{
     description_changed, description_freed, domain_born, domain_changed, domain_gone, inode_changed,
     inode_freed, lives_unseen, words_changed,
