@@ -1,21 +1,19 @@
 -- The machine, along with changes of the kernel's tables.
-use Rattle.std.proofs.Common.{◌≡◌, ◌≢◌, ◌<◌, ℕ, Option, Some, None, List, length, slice_set, slice_index_or, refl, sym, ap, ap₂, subst, ◌∙◌}
+use Rattle.std.proofs.Common.{◌≡◌, ◌<◌, ℕ, Option, List, length, slice_set, slice_index_or, refl, sym, ap, ap₂, subst, ◌∙◌}
 use Rattle.kn_base.specs.declared.key.Key.{Key}
 use Rattle.kernel_tables.specs.declared.row.Row.{Row}
 use Rattle.kernel_tables.specs.declared.row.Row.TheVariants.{Unspelled}
 use Rattle.kernel_tables.specs.declared.inode.Inode.{Inode}
 use Rattle.kernel_tables.specs.declared.description.Description.{Description}
-use Rattle.kernel_tables.specs.Kernel.{Kernel, first_page, memory_page}
-use Rattle.kernel_tables.specs.Rows.{KeepsRows, IsApart, fixed_rows, domain_rows, is_fixed, of_domain}
+use Rattle.kernel_tables.specs.Kernel.{Kernel}
+use Rattle.kernel_tables.specs.Rows.{fixed_rows, domain_rows, is_fixed, of_domain}
 use Rattle.kernel_forest.specs.Trees.{forest_of}
 use Rattle.kernel_forest.proofs.RowLaws.{domains_apart, fixed_apart}
 use Rattle.std.proofs.lemmas.List.{get_or-set_same, get_or-set_other}
 use Rattle.forest.specs.Forest.{Forest}
-use Rattle.file_tables.specs.Laws.{WritesFiles}
-use Rattle.unix_model.specs.Tables.{at, with_at}
-use Rattle.domain.specs.Domains.{Domain, Life, domain_at, domains, lives, lives_by}
-use Rattle.domain.specs.Sets.{WritesNumbers, HandsOver}
-use Rattle.kernel_machine.specs.Machine.{KernelMachine, machine_of, roots_of, room_of, inodes_of, descriptions_of, page_owner_of, held}
+use Rattle.unix_model.specs.Tables.{with_at}
+use Rattle.domain.specs.Domains.{domain_at, domains, lives, lives_by}
+use Rattle.kernel_machine.specs.Machine.{KernelMachine, machine_of, roots_of, room_of, inodes_of, descriptions_of, held}
 use Rattle.kernel_machine.specs.Laws as law
 use Rattle.kernel_machine.proofs.ViewLaws.{changed_at}
 

@@ -3,15 +3,13 @@ use Rattle.std.proofs.Common.{◌≡◌, ◌≢◌, ℕ, Option, Some, None, ref
 use Rattle.std.proofs.Math.Path.{fun_ext}
 use Rattle.std.proofs.lemmas.Bool.{cases_eq, eq-eqb, ne_eqb}
 use Rattle.std.specs.Prelude.{option_map}
-use Rattle.kernel_tables.specs.declared.inode.Inode.{Inode}
-use Rattle.kernel_tables.specs.declared.description.Description.{Description}
 use Rattle.unix_model.specs.Files as model
 use Rattle.unix_model.specs.Process.{Process}
 use Rattle.unix_model.specs.State.{Unix}
 use Rattle.unix_model.specs.Tables.{at, with_at}
 use Rattle.domain.specs.Domains.{Domain}
 use Rattle.kernel_machine.specs.Machine.{KernelMachine}
-use Rattle.kernel_machine.specs.View.{view, process_in, processes_in, memory_in, inode_in, inodes_in, description_in, descriptions_in}
+use Rattle.kernel_machine.specs.View.{view, process_in, processes_in, memory_in, file_memory, inode_in, inodes_in, description_in, descriptions_in}
 use Rattle.kernel_machine.specs.Laws as law
 use Rattle.kernel_machine.specs.Laws.{HasRoot}
 
@@ -64,7 +62,7 @@ with_processes : KernelMachine → (ℕ → Option Process) → Unix
 with_processes machine processes = record (view machine) { processes = processes }
 
 pub domain_changed : law.DomainChanged
-unfolding view processes_in process_in with_processes process_by at memory_in inodes_in descriptions_in inode_in
+unfolding view processes_in process_in with_processes process_by at memory_in inodes_in descriptions_in inode_in file_memory
 domain_changed machine slot root domain has =
     ap (with_processes machine)
     (changed_at (processes_in machine) (processes_in (record machine { domains = with_at machine.domains root domain })) slot (Some (process_in machine domain))
@@ -73,7 +71,7 @@ domain_changed machine slot root domain has =
 
 -- a root that no slot had comes into a slot
 pub domain_born : law.DomainBorn
-unfolding view processes_in process_in with_processes process_by at memory_in inodes_in descriptions_in inode_in
+unfolding view processes_in process_in with_processes process_by at memory_in inodes_in descriptions_in inode_in file_memory
 domain_born machine slot root domain apart =
     ap (with_processes machine)
     (changed_at (processes_in machine) (processes_in (record machine { roots = with_at machine.roots slot (Some root); domains = with_at machine.domains root domain })) slot (Some (process_in machine domain))
@@ -84,7 +82,7 @@ domain_born machine slot root domain apart =
 
 -- a root goes out of its slot
 pub domain_gone : law.DomainGone
-unfolding view processes_in process_in with_processes process_by at memory_in inodes_in descriptions_in inode_in
+unfolding view processes_in process_in with_processes process_by at memory_in inodes_in descriptions_in inode_in file_memory
 domain_gone machine slot root domain has =
     ap (with_processes machine)
     (changed_at (processes_in machine) (processes_in (record machine { roots = with_at machine.roots slot None; domains = with_at machine.domains root domain })) slot None
@@ -96,11 +94,11 @@ domain_gone machine slot root domain has =
 -- ---- what is no part of the state, and words
 
 pub lives_unseen : law.LivesUnseen
-unfolding view processes_in process_in memory_in inodes_in descriptions_in inode_in
+unfolding view processes_in process_in memory_in inodes_in descriptions_in inode_in file_memory
 lives_unseen machine room lives = refl
 
 pub words_changed : law.WordsChanged
-unfolding view processes_in process_in memory_in inodes_in descriptions_in inode_in
+unfolding view processes_in process_in memory_in inodes_in descriptions_in inode_in file_memory
 words_changed machine next_pid position promised = refl
 
 -- ---- files
@@ -112,19 +110,19 @@ with_descriptions : KernelMachine → (ℕ → Option model.Description) → Uni
 with_descriptions machine descriptions = record (view machine) { files = record { inodes = inodes_in machine; descriptions = descriptions } }
 
 pub inode_changed : law.InodeChanged
-unfolding view processes_in process_in memory_in inodes_in descriptions_in inode_in with_inodes
+unfolding view processes_in process_in memory_in inodes_in descriptions_in inode_in file_memory with_inodes
 inode_changed machine number row = ap (with_inodes machine) (mapped_changed (inode_in machine) machine.inodes number (Some row))
 
 pub inode_freed : law.InodeFreed
-unfolding view processes_in process_in memory_in inodes_in descriptions_in inode_in with_inodes
+unfolding view processes_in process_in memory_in inodes_in descriptions_in inode_in file_memory with_inodes
 inode_freed machine number = ap (with_inodes machine) (mapped_changed (inode_in machine) machine.inodes number None)
 
 pub description_changed : law.DescriptionChanged
-unfolding view processes_in process_in memory_in inodes_in descriptions_in inode_in with_descriptions
+unfolding view processes_in process_in memory_in inodes_in descriptions_in inode_in file_memory with_descriptions
 description_changed machine number row = ap (with_descriptions machine) (mapped_changed description_in machine.descriptions number (Some row))
 
 pub description_freed : law.DescriptionFreed
-unfolding view processes_in process_in memory_in inodes_in descriptions_in inode_in with_descriptions
+unfolding view processes_in process_in memory_in inodes_in descriptions_in inode_in file_memory with_descriptions
 description_freed machine number = ap (with_descriptions machine) (mapped_changed description_in machine.descriptions number None)
 
 pub ruleset views = (domain_changed, domain_born, domain_gone, lives_unseen, words_changed, inode_changed, inode_freed, description_changed, description_freed)

@@ -1,28 +1,28 @@
 -- What stands in pages: the bytes of a file, the places of a directory, the contents of a pipe. Each is read from the bytes
 -- of pages alone, so that it says the same of a machine whose other tables have changed.
-use Rattle.std.specs.Prelude.{ℕ, zero, suc, ◌+◌, ◌*◌, ◌/◌, List, [], ◌∷◌, ◌++◌, take, drop, replicate, slice_index, bytes_eq, Option, Some, None, if◌then◌else◌}
+use Rattle.std.specs.Prelude.{ℕ, zero, suc, ◌*◌, List, [], ◌∷◌, ◌++◌, take, drop, replicate, slice_index, bytes_eq, Option, Some, None, if◌then◌else◌}
 use Rattle.std.specs.Int.{from_le_bytes, w32}
 use Rattle.kn_base.specs.Memory.{zero_page}
 use Rattle.kn_base.specs.Rows.{part_at}
 use Rattle.unix_model.specs.Files.{Entry}
 use Rattle.unix_model.specs.Limits.{place_bytes}
+use Rattle.unix_model.specs.Memory.{Memory, Page}
 use Rattle.unix_model.specs.Numbers.{pages_of}
 use Rattle.unix_model.specs.Tables.{at}
-use Rattle.forest.specs.Walks.{Mapping}
 
--- a page of a tree, which is zero where none is mapped
-abbrev pub mapped_bytes : (ℕ → List ℕ) → Option Mapping → List ℕ
-mapped_bytes bytes None = zero_page
-mapped_bytes bytes (Some mapping) = bytes mapping.page
+-- the bytes of a page of a tree, which is zero where none is mapped
+abbrev pub mapped_bytes : Option Page → List ℕ
+mapped_bytes None = zero_page
+mapped_bytes (Some page) = page.bytes
 
--- the first so many pages of a map, one behind the other
-unfoldable pub pages_in : (ℕ → List ℕ) → (ℕ → Option Mapping) → ℕ → List ℕ
-pages_in bytes map zero = []
-pages_in bytes map (suc n) = pages_in bytes map n ++ mapped_bytes bytes (at map n)
+-- the first so many pages of a tree, one behind the other
+unfoldable pub pages_in : Memory → ℕ → List ℕ
+pages_in memory zero = []
+pages_in memory (suc n) = pages_in memory n ++ mapped_bytes (at memory n)
 
 -- the bytes of a file or directory of a length
-unfoldable pub file_in : (ℕ → List ℕ) → (ℕ → Option Mapping) → ℕ → List ℕ
-file_in bytes map length = take length (pages_in bytes map (pages_of length))
+unfoldable pub file_in : Memory → ℕ → List ℕ
+file_in memory length = take length (pages_in memory (pages_of length))
 
 -- A place of a directory has 32 bytes: the number of the inode, how many bytes the name has, and the name with zeros behind it.
 -- A hole is all zero.

@@ -10,13 +10,12 @@ use Rattle.forest.specs.Forest.{NoneEmpty}
 use Rattle.kernel_forest.specs.Trees.{forest_of, TreesGood}
 use Rattle.file_tables.specs.Roots.{named_by}
 use Rattle.file_tables.specs.Rows.{InodesGood, DescriptionsGood}
-use Rattle.domain.specs.Domains.{Domain}
 use Rattle.domain.specs.Rules.{RowsGood}
 use Rattle.unix_model.specs.declared.calls.Call.{Call}
 use Rattle.unix_model.specs.declared.calls.Call.TheVariants.{Read, Write}
 use Rattle.unix_model.specs.declared.calls.Turned.TheVariants.{Blocked}
 use Rattle.unix_model.specs.Calls.{Calls}
-use Rattle.unix_model.specs.Process.{Process, SentCall, Sent, descriptor}
+use Rattle.unix_model.specs.Process.{Process, SentCall, Sent}
 use Rattle.unix_model.specs.Room.{promised}
 use Rattle.unix_model.specs.Rules.{IsUnix}
 use Rattle.unix_model.specs.State.{Unix, Opened, opened}

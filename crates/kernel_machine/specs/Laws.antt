@@ -1,11 +1,13 @@
 -- How the flat state goes along with a change of the machine, each law as one statement.
-use Rattle.std.specs.Prelude.{◌≡◌, ◌≢◌, ◌<◌, ℕ, Some, None, length, slice_set}
+use Rattle.std.specs.Prelude.{◌≡◌, ◌≢◌, ◌<◌, ℕ, Some, None, [], length, slice_set}
 use Rattle.kn_base.specs.declared.key.Key.{Key}
 use Rattle.kernel_tables.specs.declared.inode.Inode.{Inode}
 use Rattle.kernel_tables.specs.declared.description.Description.{Description}
 use Rattle.kernel_tables.specs.declared.row.Row.{Row}
 use Rattle.kernel_tables.specs.Kernel.{Kernel, first_page, memory_page}
 use Rattle.kernel_tables.specs.Rows.{KeepsRows}
+use Rattle.kernel_tables.specs.declared.entry.PageOwner.TheVariants.{Buffer, Pipe as PipePage}
+use Rattle.forest.specs.Forest.{IsSpace}
 use Rattle.kernel_forest.specs.Trees.{forest_of}
 use Rattle.file_tables.specs.Laws.{WritesFiles}
 use Rattle.unix_model.specs.Files.{with_inode, with_description}
@@ -14,7 +16,9 @@ use Rattle.unix_model.specs.Tables.{at, with_at}
 use Rattle.domain.specs.Domains.{Domain, Life, domains, lives}
 use Rattle.domain.specs.Sets.{WritesNumbers, HandsOver}
 use Rattle.kernel_machine.specs.Machine.{KernelMachine, machine_of, inodes_of, descriptions_of, page_owner_of, held}
-use Rattle.kernel_machine.specs.View.{view, process_in, inode_in, description_in, files_in}
+use Rattle.kernel_machine.specs.View.{view, memory_in, process_in, inode_in, description_in, files_in}
+use Rattle.kernel_machine.specs.Processes.{HoldingsGood}
+use Rattle.kernel_machine.specs.Trees.{HasTree, RootsGood}
 
 -- the slot alone has this root
 abbrev pub HasRoot : KernelMachine → ℕ → ℕ → Type 0
@@ -121,3 +125,36 @@ SpacesChanged =
       page_owner = page_owner_of (first_page new.size) new.page_entries;
       words = new.machine;
     }
+
+-- ---- memories
+
+-- Trees and the bytes of pages have changed, but for those of a space no memory of a space has, nor the pages of buffers and
+-- pipes. Who owns pages, and the bank's words but for those of the flat state, may have changed too.
+pub record ChangesMemory (old new : KernelMachine) (space : ℕ) : Type 0 where
+  pub rest :
+      new
+      ≡ record old {
+        forest = new.forest;
+        page_bytes = new.page_bytes;
+        page_owner = new.page_owner;
+        words = record new.words { size = old.words.size; quantum = old.words.quantum; position = old.words.position; next_pid = old.words.next_pid };
+      }
+  pub memories : (other : ℕ) → other ≢ space → IsSpace old.forest [] other → memory_in new (Some other) ≡ memory_in old (Some other)
+  pub buffers : (page : ℕ) → at old.page_owner page ≡ Some Buffer → at new.page_bytes page ≡ at old.page_bytes page
+  pub pipes : (page : ℕ) → at old.page_owner page ≡ Some PipePage → at new.page_bytes page ≡ at old.page_bytes page
+
+-- The memory of the space of a process changes: so does that process, and nothing else.
+abbrev pub MemoryChanged : Type 0
+MemoryChanged =
+    (old new : KernelMachine) (slot root space : ℕ)
+    → HoldingsGood old.domains old.forest old.page_owner → RootsGood old.forest old.page_bytes old.page_owner old.inodes
+    → HasRoot old slot root → (at old.domains root).space ≡ Some space → ChangesMemory old new space
+    → view new ≡ with_process (view old) slot (record (process_in old (at old.domains root)) { memory = memory_in new (Some space) })
+
+-- The tree of a file or directory changes: so does that inode, and nothing else.
+abbrev pub TreeChanged : Type 0
+TreeChanged =
+    (old new : KernelMachine) (number : ℕ) (inode : Inode) (space : ℕ)
+    → HoldingsGood old.domains old.forest old.page_owner → RootsGood old.forest old.page_bytes old.page_owner old.inodes
+    → at old.inodes number ≡ Some inode → inode.root ≡ space → space ≢ 0 → HasTree inode.kind → ChangesMemory old new space
+    → view new ≡ with_files (view old) (with_inode (files_in old) number (inode_in new inode))

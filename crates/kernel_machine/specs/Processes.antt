@@ -1,5 +1,5 @@
 -- What holds of the domains of a machine between turns.
-use Rattle.std.specs.Prelude.{◌≡◌, ◌≢◌, ℕ, ◌+◌, ◌<◌, ◌≤◌, ◌^◌, true, false, Bool, Option, Some, None, IsSome, List, [], ◌∷◌, replicate}
+use Rattle.std.specs.Prelude.{◌≡◌, ◌≢◌, ℕ, ◌<◌, ◌≤◌, ◌^◌, true, false, Option, Some, None, IsSome, [], replicate}
 use Rattle.kn_base.specs.declared.key.Key.{Key}
 use Rattle.kn_base.specs.declared.key.Key.TheVariants.{Null, Resume}
 use Rattle.kernel_tables.specs.declared.entry.PageOwner.{PageOwner}

@@ -14,9 +14,8 @@ use Rattle.unix_model.specs.Memory.{Memory}
 use Rattle.unix_model.specs.Process as process
 use Rattle.unix_model.specs.State.{Unix}
 use Rattle.unix_model.specs.Tables.{at, nothing}
-use Rattle.forest.specs.Walks.{Mapping, map_of}
+use Rattle.forest.specs.Walks.{map_of}
 use Rattle.user_copy.specs.SpaceMemory.{memory_by}
-use Rattle.domain.specs.declared.types.Answer.{Answer}
 use Rattle.domain.specs.declared.types.Phase.{Phase}
 use Rattle.domain.specs.declared.types.Phase.TheVariants.{Run, Asked, Sent, Done, Exiting, Zombie}
 use Rattle.domain.specs.Domains.{Domain, regs_by}
@@ -73,17 +72,14 @@ processes_in machine = λ slot. option_map (λ root. process_in machine (at mach
 
 -- ---- files
 
--- what is mapped in the tree of a file; the root word 0 stands for no tree
-unfoldable pub file_map : (ℕ → Option Mapping) → ℕ → ℕ → Option Mapping
-file_map map zero = nothing
-file_map map (suc root) = map
-
-abbrev pub map_at : KernelMachine → ℕ → ℕ → Option Mapping
-map_at machine space = map_of machine.forest.keys space
+-- the pages of the tree of a file; the root word 0 stands for no tree
+unfoldable pub file_memory : KernelMachine → ℕ → Memory
+file_memory machine zero = nothing
+file_memory machine (suc root) = memory_in machine (Some (suc root))
 
 -- the bytes of the inode of a file or directory
 abbrev pub stored : KernelMachine → Row → List ℕ
-stored machine row = file_in machine.page_bytes (file_map (map_at machine row.root) row.root) row.length
+stored machine row = file_in (file_memory machine row.root) row.length
 
 abbrev pub inode_by : KernelMachine → Row → InodeKind → model.Inode
 inode_by machine row kind.File = model.File (stored machine row)

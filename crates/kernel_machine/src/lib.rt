@@ -9,6 +9,6 @@ pub use changes::{
     spaces_changed,
 };
 pub use views::{
-    description_changed, description_freed, domain_born, domain_changed, domain_gone, inode_changed,
-    inode_freed, lives_unseen, words_changed,
+    description_changed, description_freed, domain_born, domain_changed, domain_gone,
+    inode_changed, inode_freed, lives_unseen, memory_changed, tree_changed, words_changed,
 };

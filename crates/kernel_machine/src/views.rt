@@ -1,6 +1,6 @@
 //! Laws of the flat state that a machine stands for.
 
-ghost use Rattle.kernel_machine.specs.Laws.{DescriptionChanged, DescriptionFreed, DomainBorn, DomainChanged, DomainGone, InodeChanged, InodeFreed, LivesUnseen, WordsChanged};
+ghost use Rattle.kernel_machine.specs.Laws.{DescriptionChanged, DescriptionFreed, DomainBorn, DomainChanged, DomainGone, InodeChanged, InodeFreed, LivesUnseen, MemoryChanged, TreeChanged, WordsChanged};
 
 /// A domain changes: so does its process.
 pub fn domain_changed()
@@ -45,4 +45,14 @@ pub fn description_freed()
 /// Of the machine's words the next process id and the position are the state's.
 pub fn words_changed()
     ensures { WordsChanged }
+{}
+
+/// The memory of the space of a process changes: so does that process.
+pub fn memory_changed()
+    ensures { MemoryChanged }
+{}
+
+/// The tree of a file or directory changes: so does that inode.
+pub fn tree_changed()
+    ensures { TreeChanged }
 {}
