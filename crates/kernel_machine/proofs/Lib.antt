@@ -1,3 +1,4 @@
 pub mod ViewLaws
 pub mod MachineLaws
 pub mod MemoryLaws
+pub mod RingLaws

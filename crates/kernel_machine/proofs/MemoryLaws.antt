@@ -30,7 +30,7 @@ use Rattle.kernel_machine.specs.Laws.{HasRoot, ChangesMemory}
 use Rattle.kernel_machine.proofs.ViewLaws.{changed_at}
 
 -- what is made of what is there
-made-same : {X Y : Type 0} (f g : X → Y) (held : Option X) → ((x : X) → held ≡ Some x → f x ≡ g x) → option_map f held ≡ option_map g held
+pub made-same : {X Y : Type 0} (f g : X → Y) (held : Option X) → ((x : X) → held ≡ Some x → f x ≡ g x) → option_map f held ≡ option_map g held
 made-same f g None same = refl
 made-same f g (Some x) same = ap (λ y. Some y) (same x refl)
 
@@ -56,7 +56,7 @@ phase-same old new domain Zombie same = refl
 process-with : KernelMachine → Domain → Memory → process.Phase → Process
 process-with machine domain memory phase = record (process_in machine domain) { memory = memory; phase = phase }
 
-process-kept : (old new : KernelMachine) (domain : Domain) → memory_in new domain.space ≡ memory_in old domain.space
+pub process-kept : (old new : KernelMachine) (domain : Domain) → memory_in new domain.space ≡ memory_in old domain.space
     → ((page : ℕ) → domain.buffer ≡ Some page → at new.page_bytes page ≡ at old.page_bytes page) → process_in new domain ≡ process_in old domain
 unfolding process_in process-with at
 process-kept old new domain memory buffers =
@@ -80,7 +80,7 @@ memory-kept old new zero same = refl
 memory-kept old new (suc root) same = same (no-zero root)
 
 -- an inode whose tree, or whose page, is as before
-inode-kept : (old new : KernelMachine) (row : Inode) (kind : InodeKind)
+pub inode-kept : (old new : KernelMachine) (row : Inode) (kind : InodeKind)
     → (HasTree kind → row.root ≢ 0 → memory_in new (Some row.root) ≡ memory_in old (Some row.root)) → (kind ≡ Pipe → new.page_bytes row.root ≡ old.page_bytes row.root)
     → inode_by new row kind ≡ inode_by old row kind
 inode-kept old new row File memory page = ap (λ pages. model.File (file_in pages row.length)) (memory-kept old new row.root (memory tt))
@@ -89,14 +89,14 @@ inode-kept old new row Pipe memory page = ap (λ bytes. model.Pipe (ring_in byte
 inode-kept old new row Console memory page = refl
 
 -- what the rules of roots say of a tree, and of a pipe's page
-tree-of : (forest : Forest) (bytes : ℕ → List ℕ) (owner : ℕ → Option PageOwner) (row : Inode) (kind : InodeKind) → IsRootOf forest bytes owner row kind → HasTree kind → row.root ≢ 0
+pub tree-of : (forest : Forest) (bytes : ℕ → List ℕ) (owner : ℕ → Option PageOwner) (row : Inode) (kind : InodeKind) → IsRootOf forest bytes owner row kind → HasTree kind → row.root ≢ 0
     → IsSpace forest [] row.root × (forest.owner (NodeObject row.root) ≡ Some OfFile)
 tree-of forest bytes owner row File root tree there = let all = root there in (all.0, all.1)
 tree-of forest bytes owner row Dir root tree there = let all = root there in (all.0, all.1)
 tree-of forest bytes owner row Pipe root tree there = absurd tree
 tree-of forest bytes owner row Console root tree there = absurd tree
 
-page-of : (forest : Forest) (bytes : ℕ → List ℕ) (owner : ℕ → Option PageOwner) (row : Inode) (kind : InodeKind) → IsRootOf forest bytes owner row kind → kind ≡ Pipe
+pub page-of : (forest : Forest) (bytes : ℕ → List ℕ) (owner : ℕ → Option PageOwner) (row : Inode) (kind : InodeKind) → IsRootOf forest bytes owner row kind → kind ≡ Pipe
     → at owner row.root ≡ Some PipePage
 page-of forest bytes owner row File root pipe = cc
 page-of forest bytes owner row Dir root pipe = cc

@@ -19,7 +19,7 @@ here : {X : Type 0} (f : ℕ → X) (n : ℕ) (x : X) → with_at f n x n ≡ x
 unfolding with_at
 here f n x = rw (eq-eqb n n refl) refl
 
-other : {X : Type 0} (f : ℕ → X) (n k : ℕ) (x : X) → k ≢ n → with_at f n x k ≡ f k
+pub other : {X : Type 0} (f : ℕ → X) (n k : ℕ) (x : X) → k ≢ n → with_at f n x k ≡ f k
 unfolding with_at
 other f n k x apart = rw (ne_eqb k n apart) refl
 

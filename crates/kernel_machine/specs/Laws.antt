@@ -1,5 +1,5 @@
 -- How the flat state goes along with a change of the machine, each law as one statement.
-use Rattle.std.specs.Prelude.{◌≡◌, ◌≢◌, ◌<◌, ℕ, Some, None, [], length, slice_set}
+use Rattle.std.specs.Prelude.{◌≡◌, ◌≢◌, ◌<◌, ℕ, Some, None, List, [], length, slice_set}
 use Rattle.kn_base.specs.declared.key.Key.{Key}
 use Rattle.kernel_tables.specs.declared.inode.Inode.{Inode}
 use Rattle.kernel_tables.specs.declared.description.Description.{Description}
@@ -7,7 +7,9 @@ use Rattle.kernel_tables.specs.declared.row.Row.{Row}
 use Rattle.kernel_tables.specs.Kernel.{Kernel, first_page, memory_page}
 use Rattle.kernel_tables.specs.Rows.{KeepsRows}
 use Rattle.kernel_tables.specs.declared.entry.PageOwner.TheVariants.{Buffer, Pipe as PipePage}
+use Rattle.kernel_tables.specs.declared.inode.InodeKind.TheVariants.{Pipe}
 use Rattle.forest.specs.Forest.{IsSpace}
+use Rattle.forest.specs.Walks.{Mapping, map_of}
 use Rattle.kernel_forest.specs.Trees.{forest_of}
 use Rattle.file_tables.specs.Laws.{WritesFiles}
 use Rattle.unix_model.specs.Files.{with_inode, with_description}
@@ -158,3 +160,16 @@ TreeChanged =
     → HoldingsGood old.domains old.forest old.page_owner → RootsGood old.forest old.page_bytes old.page_owner old.inodes
     → at old.inodes number ≡ Some inode → inode.root ≡ space → space ≢ 0 → HasTree inode.kind → ChangesMemory old new space
     → view new ≡ with_files (view old) (with_inode (files_in old) number (inode_in new inode))
+
+-- the machine with other bytes in a page
+abbrev pub with_page : KernelMachine → ℕ → List ℕ → KernelMachine
+with_page machine page bytes = record machine { page_bytes = with_at machine.page_bytes page bytes }
+
+-- The page of a pipe, which no space maps, gets other bytes: that pipe changes, and nothing else.
+abbrev pub RingChanged : Type 0
+RingChanged =
+    (machine : KernelMachine) (number : ℕ) (inode : Inode) (bytes : List ℕ)
+    → HoldingsGood machine.domains machine.forest machine.page_owner → RootsGood machine.forest machine.page_bytes machine.page_owner machine.inodes
+    → at machine.inodes number ≡ Some inode → inode.kind ≡ Pipe
+    → ((space page : ℕ) (mapping : Mapping) → IsSpace machine.forest [] space → map_of machine.forest.keys space page ≡ Some mapping → mapping.page ≢ inode.root)
+    → view (with_page machine inode.root bytes) ≡ with_files (view machine) (with_inode (files_in machine) number (inode_in (with_page machine inode.root bytes) inode))

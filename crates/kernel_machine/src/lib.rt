@@ -10,5 +10,6 @@ pub use changes::{
 };
 pub use views::{
     description_changed, description_freed, domain_born, domain_changed, domain_gone,
-    inode_changed, inode_freed, lives_unseen, memory_changed, tree_changed, words_changed,
+    inode_changed, inode_freed, lives_unseen, memory_changed, ring_changed, tree_changed,
+    words_changed,
 };

@@ -1,6 +1,6 @@
 //! Laws of the flat state that a machine stands for.
 
-ghost use Rattle.kernel_machine.specs.Laws.{DescriptionChanged, DescriptionFreed, DomainBorn, DomainChanged, DomainGone, InodeChanged, InodeFreed, LivesUnseen, MemoryChanged, TreeChanged, WordsChanged};
+ghost use Rattle.kernel_machine.specs.Laws.{DescriptionChanged, DescriptionFreed, DomainBorn, DomainChanged, DomainGone, InodeChanged, InodeFreed, LivesUnseen, MemoryChanged, RingChanged, TreeChanged, WordsChanged};
 
 /// A domain changes: so does its process.
 pub fn domain_changed()
@@ -55,4 +55,9 @@ pub fn memory_changed()
 /// The tree of a file or directory changes: so does that inode.
 pub fn tree_changed()
     ensures { TreeChanged }
+{}
+
+/// The page of a pipe gets other bytes: that pipe changes.
+pub fn ring_changed()
+    ensures { RingChanged }
 {}
