@@ -2,3 +2,4 @@ pub mod ViewLaws
 pub mod MachineLaws
 pub mod MemoryLaws
 pub mod RingLaws
+pub mod SetLaws

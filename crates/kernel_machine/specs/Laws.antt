@@ -4,6 +4,7 @@ use Rattle.kn_base.specs.declared.key.Key.{Key}
 use Rattle.kernel_tables.specs.declared.inode.Inode.{Inode}
 use Rattle.kernel_tables.specs.declared.description.Description.{Description}
 use Rattle.kernel_tables.specs.declared.row.Row.{Row}
+use Rattle.kernel_tables.specs.declared.row.Row.TheVariants.{Used}
 use Rattle.kernel_tables.specs.Kernel.{Kernel, first_page, memory_page}
 use Rattle.kernel_tables.specs.Rows.{KeepsRows}
 use Rattle.kernel_tables.specs.declared.entry.PageOwner.TheVariants.{Buffer, Pipe as PipePage}
@@ -19,7 +20,7 @@ use Rattle.domain.specs.Domains.{Domain, Life, domains, lives}
 use Rattle.domain.specs.Sets.{WritesNumbers, HandsOver}
 use Rattle.kernel_machine.specs.Machine.{KernelMachine, machine_of, inodes_of, descriptions_of, page_owner_of, held}
 use Rattle.kernel_machine.specs.View.{view, memory_in, process_in, inode_in, description_in, files_in}
-use Rattle.kernel_machine.specs.Processes.{HoldingsGood}
+use Rattle.kernel_machine.specs.Processes.{HoldingsGood, SlotsGood}
 use Rattle.kernel_machine.specs.Trees.{HasTree, RootsGood}
 
 -- the slot alone has this root
@@ -173,3 +174,35 @@ RingChanged =
     → at machine.inodes number ≡ Some inode → inode.kind ≡ Pipe
     → ((space page : ℕ) (mapping : Mapping) → IsSpace machine.forest [] space → map_of machine.forest.keys space page ≡ Some mapping → mapping.page ≢ inode.root)
     → view (with_page machine inode.root bytes) ≡ with_files (view machine) (with_inode (files_in machine) number (inode_in (with_page machine inode.root bytes) inode))
+
+-- ---- put together, as servers use them
+
+-- Where slots are good, no two have one root.
+abbrev pub RootsDiffer : Type 0
+RootsDiffer =
+    (machine : KernelMachine) (slot root : ℕ) → SlotsGood machine.roots machine.room machine.lives machine.domains
+    → at machine.roots slot ≡ Some root → HasRoot machine slot root
+
+-- A call that writes numbers in a domain, so that it is another one: its process is another one.
+abbrev pub DomainSet : Type 0
+DomainSet =
+    (old new : Kernel) (slot root : ℕ) (domain : Domain) → WritesNumbers old new → domains new ≡ with_at (domains old) root domain
+    → HasRoot (machine_of old) slot root
+    → view (machine_of new) ≡ with_process (view (machine_of old)) slot (process_in (machine_of old) domain)
+
+-- A call that writes numbers in a domain, so that it is the same: the state is the same.
+abbrev pub LifeSet : Type 0
+LifeSet = (old new : Kernel) → WritesNumbers old new → domains new ≡ domains old → view (machine_of new) ≡ view (machine_of old)
+
+-- A row of the table of inodes is written, or one of open descriptions.
+abbrev pub InodeSet : Type 0
+InodeSet =
+    (old new : Kernel) (number : ℕ) (inode : Inode) → number < length old.inodes
+    → new ≡ record old { inodes = slice_set old.inodes number (Used inode) }
+    → view (machine_of new) ≡ with_files (view (machine_of old)) (with_inode (files_in (machine_of old)) number (inode_in (machine_of old) inode))
+
+abbrev pub DescriptionSet : Type 0
+DescriptionSet =
+    (old new : Kernel) (number : ℕ) (row : Description) → number < length old.descriptions
+    → new ≡ record old { descriptions = slice_set old.descriptions number (Used row) }
+    → view (machine_of new) ≡ with_files (view (machine_of old)) (with_description (files_in (machine_of old)) number (description_in row))
