@@ -6,6 +6,7 @@ pub mod Children
 pub mod Owning
 pub mod Levels
 pub mod OwnWays
+pub mod FreePages
 pub mod Walking
 pub mod PruneWays
 pub mod Mapping

@@ -19,7 +19,7 @@ use Rattle.forest.specs.Calls.{ChangesMap, IsOwn}
 use Rattle.forest.proofs.ReleaseLaws.{is_or_not}
 use Rattle.forest.proofs.OwnLaws.{owned_object}
 use Rattle.forest.proofs.OwnMaps.{page_way-parts, length-node_way, way_of_node}
-use Rattle.forest.proofs.CopyLaws.{counted_once, once, end_owned}
+use Rattle.forest.proofs.CopyLaws.{counted_once, once, end_owned, free_unnamed}
 use Rattle.forest.proofs.DescentLaws.{AtEnd, makes_way_own}
 use Rattle.forest.proofs.CallLaws.{own_way_is_own}
 use Rattle.forest.proofs.AloneLaws.{own_has_own_way}
@@ -35,6 +35,7 @@ use Rattle.seg_tree.proofs.Levels.{below_end}
 use Rattle.seg_tree.proofs.Mapping.{page_top, node_way-digits, map_here, made_pages}
 use Rattle.seg_tree.proofs.OwnPages.{IsMany, changed, is_own, changes, ways_now, keys_now, page_owner_now, other_owner_now, space_before, space_after}
 use Rattle.seg_tree.proofs.OwnWays.{made_keeps_way}
+use Rattle.seg_tree.proofs.FreePages.{unnamed_free}
 use Rattle.seg_tree.proofs.PageCopies.{in_use}
 use Rattle.seg_tree.proofs.Replacing.{mapped_key}
 
@@ -151,11 +152,11 @@ module _ (old mid : Kernel) (space page node found : ℕ) (to : Owner) (below : 
     same_map = mid_map ∙ sym with_same;
   }
 
-  pub ways_mid : (other : ℕ) → OwnWay (forest_of old) space (node_way other) → OwnWay (forest_of mid) space (node_way other)
-  ways_mid other other_own =
+  pub ways_mid : (mine other : ℕ) → IsSpace (forest_of old) [] mine → OwnWay (forest_of old) mine (node_way other) → OwnWay (forest_of mid) mine (node_way other)
+  ways_mid mine other is other_own =
       let start : AtEnd (forest_of old) (outside_trees old outside) [] space to [] =
       record { held = trees.held; is_space = is_space; space_owner = owner; is_way = tt; own = tt } in
-      made_keeps_way (outside_trees old outside) [] space to d.made start way (omega (arith, long)) (page_top page below) (node_way other) (way_of_node other) other_own
+      made_keeps_way (outside_trees old outside) [] space to d.made start way (omega (arith, long)) (page_top page below) mine is (node_way other) (way_of_node other) other_own
 
   pub none_mid : OwnWay (forest_of old) space (node_way page) → mid.machine.nodes_taken ≡ old.machine.nodes_taken
   none_mid own =
@@ -288,8 +289,8 @@ module _ (old mid : Kernel) (space page node found : ℕ) (to : Owner) (below : 
             a.trees.single object (ap is_some (sym (other_owner_now (forest_of mid) (outside_trees mid outside) space page node fresh to a.trees.held a.is_space a.owner below a.above a.ends (free outside all) real is_many object t)) ∙ some))
             (is_or_not object (PageObject fresh))
 
-    pub owns_copied : ((found ≢ 0) → (forest_of mid).count (PageObject found) ≡ 1 → ⊥) → Owns old new space page fresh page_owner
-    owns_copied not_single =
+    pub owns_copied : BankGood old → ((found ≢ 0) → (forest_of mid).count (PageObject found) ≡ 1 → ⊥) → Owns old new space page fresh page_owner
+    owns_copied old_good not_single =
         let d = descends known trees in
         let f = free known trees in
         let taken_few = d.few in
@@ -326,15 +327,18 @@ module _ (old mid : Kernel) (space page node found : ℕ) (to : Owner) (below : 
               let one = own_single old mid space page node found to below is_space owner mapped known trees d own in
               absurd (not_single one.0 one.1);
           copied = λ no. record {
+            was_free = unnamed_free old known fresh old_good (subst (λ s. IsBankPage s fresh) size c.takes.inside) trees.shares
+                (free_unnamed (forest_of old) trees.held.sound (PageObject fresh) (sym (made_pages d.made fresh) ∙ c.takes.unowned))
+                (ap (λ (out : Object → ℕ). out (PageObject fresh)) (sym (d.outside_now known)) ∙ f.none_outside);
             unowned = sym (made_pages d.made fresh) ∙ c.takes.unowned;
             unnamed = λ outside all. ap (λ (out : Object → ℕ). out (PageObject fresh)) (sym (d.outside_now outside)) ∙ (free outside all).none_outside;
             owned = owned ∙ sym tree;
             number = c.takes.pages ∙ ap (λ (k : Kernel). k.machine.pages_taken + 1) d.rest;
           };
-          ways = λ other own.
-              subst (λ g. OwnWay g space (node_way other)) (sym c.takes.forest_now)
-              (ways_now (forest_of mid) (outside_trees mid known) space page node fresh to here.trees.held here.is_space here.owner below here.above here.ends f real is_many other
-              (ways_mid old mid space page node found to below is_space owner mapped known trees d other own));
+          ways = λ mine other is own.
+              subst (λ g. OwnWay g mine (node_way other)) (sym c.takes.forest_now)
+              (ways_now (forest_of mid) (outside_trees mid known) space page node fresh to here.trees.held here.is_space here.owner below here.above here.ends f real is_many mine other ((here.spaces mine).0 is)
+              (ways_mid old mid space page node found to below is_space owner mapped known trees d mine other is own));
           most = let long = digits_four page in omega (arith, long);
           none = λ own.
               let none = none_mid old mid space page node found to below is_space owner mapped known trees d own in

@@ -32,7 +32,7 @@ use Rattle.seg_tree.proofs.Copying.{rest_trans}
 use Rattle.seg_tree.proofs.Children.{fits_tree}
 use Rattle.seg_tree.proofs.PruneWays.{leaf_written}
 use Rattle.seg_tree.proofs.Levels.{Begins, under_way, below_end}
-use Rattle.seg_tree.proofs.OwnWays.{made_keeps_way}
+use Rattle.seg_tree.proofs.OwnWays.{made_keeps_way, written_keeps_way}
 use Rattle.forest.proofs.DescentLaws.{makes_way_own}
 use Rattle.forest.proofs.ThinLaws.{held_nothing}
 use Rattle.forest.proofs.EmptyLaws.{descent_leaves_last_empty, write_fills}
@@ -194,15 +194,16 @@ module _ (old mid : Kernel) (outside : Outside) (space page node : ℕ) (to : Ow
     put_own = subst (λ f. OwnWay f space (node_way page)) (sym puts.steps.forest_now)
         (own_kept (forest_of mid) space node (page % 16) (node_way page) key mid_end (omega arith) (node_way page) (way_of_node page) (omega arith) mid_way)
 
-    put_ways : (other : ℕ) → OwnWay (forest_of old) space (node_way other) → OwnWay (forest_of put) space (node_way other)
-    put_ways other own =
+    put_ways : (mine other : ℕ) → IsSpace (forest_of old) [] mine → OwnWay (forest_of old) mine (node_way other) → OwnWay (forest_of put) mine (node_way other)
+    put_ways mine other is own =
         let four = length-node_way page in
         let four_other = length-node_way other in
+        let is_mine = space_leaf (forest_of old) [] key mine fits is in
         let start : AtEnd (forest_of old) (outside_trees old outside) (key ∷ []) space to [] =
         record { held = starts.trees.held; is_space = starts.is_space; space_owner = owner; is_way = tt; own = tt } in
-        subst (λ f. OwnWay f space (node_way other)) (sym puts.steps.forest_now)
-        (own_kept (forest_of mid) space node (page % 16) (node_way page) key mid_end (omega arith) (node_way other) (way_of_node other) (omega arith)
-        (made_keeps_way (outside_trees old outside) (key ∷ []) space to d.made start way (omega (arith, long)) (page_top page below) (node_way other) (way_of_node other) own))
+        subst (λ f. OwnWay f mine (node_way other)) (sym puts.steps.forest_now)
+        (written_keeps_way (forest_of mid) space node (page % 16) (node_way page) key mid_end (omega arith) mine ((made.spaces mine).0 is_mine).unnamed (node_way other) (way_of_node other) (omega arith)
+        (made_keeps_way (outside_trees old outside) (key ∷ []) space to d.made start way (omega (arith, long)) (page_top page below) mine is_mine (node_way other) (way_of_node other) own))
 
     put_none : OwnWay (forest_of old) space (node_way page) → put.machine.nodes_taken ≡ old.machine.nodes_taken
     put_none own =

@@ -17,11 +17,12 @@ use Rattle.forest.proofs.HeldLaws.{other_object, take_keeps_held}
 use Rattle.forest.proofs.ReleaseLaws.{is_or_not, some_not_none}
 use Rattle.forest.proofs.OwnLaws.{owned_object}
 use Rattle.forest.proofs.CopyLaws.{counted_once, once}
-use Rattle.forest.proofs.DescentLaws.{changes_one_page, leaf_names_page, own_kept}
+use Rattle.forest.proofs.DescentLaws.{changes_one_page, leaf_names_page}
 use Rattle.forest.proofs.OwnMaps.{own_end, way_of_node, length-node_way}
 use Rattle.forest.proofs.CallLaws.{call_changes_map, own_way_is_own}
 use Rattle.seg_tree.specs.Writes.{page_key, writable_mapping, leaf_copied}
 use Rattle.seg_tree.proofs.Mapping.{space_leaf}
+use Rattle.seg_tree.proofs.OwnWays.{written_keeps_way}
 
 -- a way that is own is made own by nothing
 pub own_made : (outside : Object → ℕ) (hand : List Key) (space : ℕ) (owner : Owner) (forest : Forest) (way : List ℕ) → OwnWay forest space way
@@ -155,14 +156,14 @@ module _ (forest : Forest) (outside : Object → ℕ) (space page node fresh : �
   }
 
   -- each own way stays own
-  pub ways_now : (other : ℕ) → OwnWay forest space (node_way other) → OwnWay with_page space (node_way other)
-  ways_now other other_own =
+  pub ways_now : (mine other : ℕ) → IsSpace forest [] mine → OwnWay forest mine (node_way other) → OwnWay with_page mine (node_way other)
+  ways_now mine other is other_own =
       let end = own_end forest outside [] space node (node_way page) held.sound held.exact is_space (way_of_node page) own ends in
       let four = length-node_way page in
       let four_other = length-node_way other in
-      own_less (with_key (with_taken forest (PageObject fresh) to) (place_of node (page % 16)) (page_key fresh)) (named (at forest.keys (place_of node (page % 16)))) many_now space (node_way other)
-      (own_kept (with_taken forest (PageObject fresh) to) space node (page % 16) (node_way page) (page_key fresh) end (omega arith) (node_way other) (way_of_node other) (omega arith)
-      (own_taken forest (PageObject fresh) to space (node_way other) other_own))
+      own_less (with_key (with_taken forest (PageObject fresh) to) (place_of node (page % 16)) (page_key fresh)) (named (at forest.keys (place_of node (page % 16)))) many_now mine (node_way other)
+      (written_keeps_way (with_taken forest (PageObject fresh) to) space node (page % 16) (node_way page) (page_key fresh) end (omega arith) mine is.unnamed (node_way other) (way_of_node other) (omega arith)
+      (own_taken forest (PageObject fresh) to mine (node_way other) other_own))
 
   node_owner : (n : ℕ) → (with_page).owner (NodeObject n) ≡ forest.owner (NodeObject n)
   node_owner n =

@@ -146,10 +146,10 @@ module _ (k0 : Kernel) (space page : ℕ) (writable : Bool) (id : PageId) (good 
     }
 
     -- own ways stay own while the page is counted more
-    pub raised_way : (outside : Outside) → TreesGood k0 outside [] → IsSpace (forest_of k0) [] space → KeepsWays k0 k1 space
-    raised_way outside trees is other own =
+    pub raised_way : (outside : Outside) → TreesGood k0 outside [] → KeepsWays k0 k1
+    raised_way outside trees mine other is own =
         let four = length-node_way other in
-        counts_keep_way (forest_of k0) (forest_of k1) [] space trees.held.sound trees.held.rooted is keys_same
+        counts_keep_way (forest_of k0) (forest_of k1) [] mine trees.held.sound trees.held.rooted is keys_same
         (λ node. ap (λ (f : Forest). f.count (NodeObject node)) raises.steps.forest_now ∙ raised_nodes (forest_of k0) id false node)
         (node_way other) (way_of_node other) (omega arith) own
 
@@ -189,19 +189,19 @@ module _ (k0 : Kernel) (space page : ℕ) (writable : Bool) (id : PageId) (good 
           subst (λ o. 2 ≤ (forest_of k2).count o) is (protected_many t))
           (cases_eq id.0 0)
 
-      pub protected : (k3 : Kernel) → IsSpace (forest_of k0) [] space → LowersKey k2 k3 (Page id writable)
+      pub protected : (k3 : Kernel) → LowersKey k2 k3 (Page id writable)
           → Remaps k0 k3 space 4 (with_at (map_of (forest_of k0).keys space) page (Some (record { writable = false; page = id.0 })))
-      protected k3 is_space lowers = record {
+      protected k3 lowers = record {
         changes = λ outside trees.
             let done = put.after outside (raised_trees k1 outside trees raises) k3 lets in
             (done.0, subst (λ (keys : ℕ → Key). ChangesMap (forest_of k0) (forest_of k3) space (with_at (map_of keys space) page (Some (record { writable = false; page = id.0 })))) keys_same (back done.1));
         filled = λ filled.
             let now = put.filled (λ e. cc) (subst NoneEmpty (sym keys_same) filled) in
             release_leaves_none_empty (forest_of k2) (forest_of k3) (outside_trees k2 known) (was ∷ []) [] hand.held (lets.lets known [] hand).1 now;
-        ways = λ other own.
-            subst (λ f. OwnWay f space (node_way other)) (sym lowers.steps.forest_now)
-            (own_less (forest_of k2) (named (Page id writable)) many_was space (node_way other)
-            (put.ways other (raised_way known known_trees is_space other own)));
+        ways = λ mine other is own.
+            subst (λ f. OwnWay f mine (node_way other)) (sym lowers.steps.forest_now)
+            (own_less (forest_of k2) (named (Page id writable)) many_was mine (node_way other)
+            (put.ways mine other (raised_space mine is) (raised_way known known_trees mine other is own)));
         outside_now = λ outside. lowers.steps.outside_now outside ∙ put.outside_now outside ∙ raises.steps.outside_now outside;
         rows_now = λ mine apart. lowers.steps.rows_now mine apart ∙ put.rows_now mine apart ∙ raises.steps.rows_now mine apart;
         rest = rest_trans k0 k2 k3 (rest_trans k0 k1 k2 raises.steps.rest put.rest) lowers.steps.rest;

@@ -27,7 +27,7 @@ pub record PutsLeaf (old new : Kernel) (space page : ℕ) (key was : Key) : Type
   pub place : ℕ
   pub stands : at (forest_of new).keys place ≡ key
   pub own : HasOwnWay new space page
-  pub ways : KeepsWays old new space
+  pub ways : KeepsWays old new
   pub node : ℕ
   pub ends : EndsAt (forest_of new).keys space (node_way page) (NodeObject node)
   pub but : NoneEmpty (forest_of old).keys → NoneEmptyBut (forest_of new).keys node

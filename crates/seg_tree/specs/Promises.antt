@@ -17,12 +17,12 @@ use Rattle.seg_tree.specs.declared.walk.Found.{Found}
 use Rattle.seg_tree.specs.Ways.{KeepsWays}
 
 -- The map of a space has changed, and that of no other one. What names trees from outside, and the keys of all other nodes,
--- are as before, and at most so many nodes were taken. No node below a root is empty where none was, and each way in the space
+-- are as before, and at most so many nodes were taken. No node below a root is empty where none was, and each way in any space
 -- that was its own is so still.
 pub record Remaps (old new : Kernel) (space few : ℕ) (map : ℕ → Option Mapping) : Type 0 where
   pub changes : (outside : Outside) → TreesGood old outside [] → TreesGood new outside [] × ChangesMap (forest_of old) (forest_of new) space map
   pub filled : NoneEmpty (forest_of old).keys → NoneEmpty (forest_of new).keys
-  pub ways : KeepsWays old new space
+  pub ways : KeepsWays old new
   pub outside_now : (outside : Outside) → outside_trees new outside ≡ outside_trees old outside
   pub rows_now : KeepsRows old new
   pub rest : KeepsRest old new

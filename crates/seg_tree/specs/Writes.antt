@@ -62,8 +62,9 @@ pub record CopiesLeaf (old new : Kernel) (place found fresh : ℕ) (to : Owner) 
   pub takes : TakesCopy old new (leaf_copied (forest_of old) place fresh to) found fresh
   pub shares : (outside : Outside) (hand : List Key) → Shares old outside hand → Shares new outside hand
 
--- One page was taken for a tree of the owner, which nothing named, and none was given back.
+-- One page was taken for a tree of the owner, which was free, so that nothing named it, and none was given back.
 pub record TakesOne (old new : Kernel) (page : ℕ) (owner : PageOwner) : Type 0 where
+  pub was_free : is_free (entry_at old.page_entries (page - first_page old.size)) ≡ true
   pub unowned : (forest_of old).owner (PageObject page) ≡ None
   pub unnamed : (outside : Outside) → TreesGood old outside [] → outside_trees old outside (PageObject page) ≡ 0
   pub owned : (forest_of new).owner (PageObject page) ≡ page_tree owner
@@ -71,7 +72,7 @@ pub record TakesOne (old new : Kernel) (page : ℕ) (owner : PageOwner) : Type 0
 
 -- A page that may be written at a page number of a space was made its own: `result` is mapped there, with the bytes of the page
 -- before, and no other space and no other page number reaches it. Nothing has changed where the page was own, and else one page
--- was taken. All other pages have the bytes that they had. Each way in the space that was its own is so still, and no node was
+-- was taken. All other pages have the bytes that they had. Each way in any space that was its own is so still, and no node was
 -- taken where the way to the page was.
 pub record Owns (old new : Kernel) (space page result : ℕ) (owner : PageOwner) : Type 0 where
   pub found : Mapping
@@ -90,6 +91,6 @@ pub record Owns (old new : Kernel) (space page result : ℕ) (owner : PageOwner)
   pub rest : KeepsUnreleased old new
   pub kept : IsOwn (forest_of old) space page found → (result ≡ found.page) × (new ≡ old)
   pub copied : (IsOwn (forest_of old) space page found → ⊥) → TakesOne old new result owner
-  pub ways : KeepsWays old new space
+  pub ways : KeepsWays old new
   pub most : new.machine.nodes_taken ≤ old.machine.nodes_taken + 4
   pub none : HasOwnWay old space page → new.machine.nodes_taken ≡ old.machine.nodes_taken

@@ -40,7 +40,7 @@ put_loading old new space loads loading good put = record {
   is = (put_keeps old new put).stay space loading.is;
   low = loading.low;
   mapped = λ page needed. put.mapped page (loading.mapped page needed);
-  ways = λ page below needed. put.ways page (loading.ways page below needed);
+  ways = λ page below needed. put.ways space page loading.is.is_space (loading.ways page below needed);
 }
 
 pub sealed_ready : (old new : Kernel) (space : ℕ) (loads : List Load) → IsLoading old space loads → BankGood new → SealsPlan old new space loads (2 ^ 19) → IsReady new

@@ -99,7 +99,7 @@ module _ (k0 k1 : Kernel) (space page : ℕ) (loads : List Load) (so_far : MapsP
         here = change.here ∙ ap (λ (map : ℕ → Option Mapping). with_at map page (Some (record { writable = true; page = 0 }))) so_far.here ∙ one_needed loads page needed;
         ways = λ number low is_needed. ⊎_elim
             (λ (t : number ≡ page). subst (HasOwnWay k2 space) (sym t) own_way)
-            (λ (t : number ≡ page → ⊥). maps.ways number (so_far.ways number (omega arith) is_needed))
+            (λ (t : number ≡ page → ⊥). maps.ways space number so_far.stays (so_far.ways number (omega arith) is_needed))
             (cases_eq number page);
         others = record {
           stay = λ other still apart. change.others.stay other (so_far.others.stay other still apart) apart;

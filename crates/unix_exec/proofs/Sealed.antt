@@ -102,7 +102,7 @@ module _ (k0 k1 : Kernel) (space page : ℕ) (loads : List Load) (so_far : Seals
         stays = change.stays;
         here = change.here ∙ ap (λ (map : ℕ → Option Mapping). with_at map page (Some (read_only found))) so_far.here
             ∙ one_sealed loads (map_of (forest_of k0).keys space) page found is mapped;
-        ways = λ number own. maps.ways number (so_far.ways number own);
+        ways = λ number own. maps.ways space number so_far.stays (so_far.ways number own);
         others = record {
           stay = λ other still apart. change.others.stay other (so_far.others.stay other still apart) apart;
           maps = λ other still apart. change.others.maps other (so_far.others.stay other still apart) apart ∙ so_far.others.maps other still apart;

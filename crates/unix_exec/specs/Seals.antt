@@ -10,7 +10,7 @@ use Rattle.forest.specs.Forest.{IsSpace, NoneEmpty}
 use Rattle.forest.specs.Calls.{KeepsOthers}
 use Rattle.kernel_forest.specs.Trees.{forest_of, outside_trees, TreesGood}
 use Rattle.kernel_forest.specs.Moves.{KeepsRest}
-use Rattle.seg_tree.specs.Ways.{KeepsWays}
+use Rattle.seg_tree.specs.Ways.{HasOwnWay}
 
 -- a page of a program is read-only where none of its loads makes it writable, and it isn't of the stack
 abbrev pub page_sealed : List Load → ℕ → Bool
@@ -29,7 +29,7 @@ pub record SealsPlan (old new : Kernel) (space : ℕ) (loads : List Load) (limit
   pub trees : (outside : Outside) → TreesGood old outside [] → TreesGood new outside []
   pub stays : IsSpace (forest_of new) [] space
   pub here : map_of (forest_of new).keys space ≡ sealed_below loads limit (map_of (forest_of old).keys space)
-  pub ways : KeepsWays old new space
+  pub ways : (page : ℕ) → HasOwnWay old space page → HasOwnWay new space page
   pub others : KeepsOthers (forest_of old) (forest_of new) space
   pub filled : NoneEmpty (forest_of old).keys → NoneEmpty (forest_of new).keys
   pub outside_now : (outside : Outside) → outside_trees new outside ≡ outside_trees old outside

@@ -156,7 +156,7 @@ nothing_put kernel space address [] none = record {
   pages = λ number page off. refl;
   taken = λ taken counts. let zero_taken : taken ≡ 0 = counts in omega arith;
   mapped = λ page some. some;
-  ways = λ page own. own;
+  ways = λ mine page still own. own;
   most = omega arith;
 }
 
@@ -274,7 +274,7 @@ module _ (k0 k1 k2 : Kernel) (space address next : ℕ) (first rest : List ℕ) 
     mapped = λ page some.
         still_mapped (forest_of k1) (forest_of k2) space (address / 4096 + 1) b.result is_now second page
         (still_mapped (forest_of k0) (forest_of k1) space (address / 4096) a.result is a.owns page some);
-    ways = λ page own. b.ways page (a.ways page own);
+    ways = λ mine page still own. b.ways mine page ((a.owns.spaces mine).0 still) (a.ways mine page still own);
     most = let m = a.most in let n = b.most in omega arith;
   }
 

@@ -65,11 +65,11 @@ pub record PutsPiece (old new : Kernel) (space at : ℕ) (bytes : List ℕ) : Ty
   pub pages : (number : ℕ) → IsBankPage old.size number → number ≢ result → bank_page new number ≡ bank_page old number
   pub kept : IsOwn (forest_of old) space (at / 4096) found → new.machine.pages_taken ≡ old.machine.pages_taken
   pub copied : (IsOwn (forest_of old) space (at / 4096) found → ⊥) → new.machine.pages_taken ≡ old.machine.pages_taken + 1
-  pub ways : KeepsWays old new space
+  pub ways : KeepsWays old new
   pub most : new.machine.nodes_taken ≤ old.machine.nodes_taken + 4
 
 -- Bytes were put into a space, from an address on. The pages that they touch are own now, all other pages of the store have the
--- bytes that they had, what is mapped in the space is so still, and each way in it that was its own.
+-- bytes that they had, what is mapped in the space is so still, and each way in any space that was its own.
 pub record PutsBytes (old new : Kernel) (space at : ℕ) (bytes : List ℕ) : Type 0 where
   pub trees : (outside : Outside) → TreesGood old outside [] → TreesGood new outside []
   pub spaces : (other : ℕ) → IsSpace (forest_of old) [] other ↔ IsSpace (forest_of new) [] other
@@ -86,5 +86,5 @@ pub record PutsBytes (old new : Kernel) (space at : ℕ) (bytes : List ℕ) : Ty
   pub taken : (taken : ℕ) → NotOwn (forest_of old) space (at / 4096) (pages_touched at (length bytes)) taken
       → new.machine.pages_taken ≡ old.machine.pages_taken + taken
   pub mapped : (page : ℕ) → IsSome (map_of (forest_of old).keys space page) → IsSome (map_of (forest_of new).keys space page)
-  pub ways : KeepsWays old new space
+  pub ways : KeepsWays old new
   pub most : new.machine.nodes_taken ≤ old.machine.nodes_taken + 8

@@ -50,7 +50,7 @@ returns-in-Some-clause-protected g c found is =
     let same : Some (record { writable = c.in-Some.found.writable; page = c.in-Some.found.page.0 }) ≡ Some found = c.in-Some.ensures.found ∙ is in
     let pages : c.in-Some.found.page.0 ≡ found.page = ap page_or_zero same in
     subst (λ (number : ℕ). Remaps old new c.args.space.0.0 4 (with_at (map_of (forest_of old).keys c.args.space.0.0) c.args.page (Some (record { writable = false; page = number })))) pages
-    (protected (kernel_of (g.T.Store.memory c.args.store.now)) c.args.space.0.0 c.args.page c.in-Some.found.writable c.in-Some.found.page c.requires.good c.requires.page (sym c.in-Some.ensures.found) (kernel_of (g.T.Store.memory c.raise_key.new.store)) c.raise_key.ensures.raised (kernel_of (g.T.Store.memory c.put_leaf.new.store)) c.put_leaf.result c.put_leaf.ensures.put c.requires.trees.0 c.requires.trees.1 new c.requires.space (c.lower_leaf.ensures.lowered c.in-Some.found.writable))
+    (protected (kernel_of (g.T.Store.memory c.args.store.now)) c.args.space.0.0 c.args.page c.in-Some.found.writable c.in-Some.found.page c.requires.good c.requires.page (sym c.in-Some.ensures.found) (kernel_of (g.T.Store.memory c.raise_key.new.store)) c.raise_key.ensures.raised (kernel_of (g.T.Store.memory c.put_leaf.new.store)) c.put_leaf.result c.put_leaf.ensures.put c.requires.trees.0 c.requires.trees.1 new (c.lower_leaf.ensures.lowered c.in-Some.found.writable))
 
 pub returns-in-None-clause-protected : goal.returns-in-None-clause-protected
 returns-in-None-clause-protected g c found is = let no : None ≡ Some found = c.in-None.ensures.found ∙ is in cc
@@ -59,7 +59,7 @@ pub returns-in-Some-clause-no_node : goal.returns-in-Some-clause-no_node
 returns-in-Some-clause-no_node g c own =
     let raised = c.raise_key.ensures.raised.steps.number in
     let put = c.put_leaf.ensures.put.none (raised_way (kernel_of (g.T.Store.memory c.args.store.now)) c.args.space.0.0 c.args.page c.in-Some.found.writable c.in-Some.found.page c.requires.good c.requires.page
-    (sym c.in-Some.ensures.found) (kernel_of (g.T.Store.memory c.raise_key.new.store)) c.raise_key.ensures.raised c.requires.trees.0 c.requires.trees.1 c.requires.space c.args.page own) in
+    (sym c.in-Some.ensures.found) (kernel_of (g.T.Store.memory c.raise_key.new.store)) c.raise_key.ensures.raised c.requires.trees.0 c.requires.trees.1 c.args.space.0.0 c.args.page c.requires.space own) in
     let lowered = (c.lower_leaf.ensures.lowered c.in-Some.found.writable).steps.number in
     omega arith
 

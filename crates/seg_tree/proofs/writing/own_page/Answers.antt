@@ -113,6 +113,7 @@ returns-else-is_single-clause-own g c =
     let there = found_owned old mid c.args.space.0 c.args.page c.own_node-node.result.0 c.args.found.0 owner.0 c.requires.page c.requires.space (c.tree_owner-node_owner.ensures ∙ owner.1) c.requires.mapped
     all.0 all.1 d real in
     many_found mid c.args.found.0 all.0 d.trees there (not_once mid c.args.found.0 c.is_single.result c.is_single.ensures c.if-is_single.false real))
+    c.requires.good
     (λ real one. not_once mid c.args.found.0 c.is_single.result c.is_single.ensures c.if-is_single.false real one)
 
 pub returns-then-is_single-clause-blocks : goal.returns-then-is_single-clause-blocks
