@@ -7,9 +7,9 @@ use Rattle.bundle.specs.declared.fault.BundleKind.{BundleKind}
 use Rattle.bundle.specs.declared.said.Said.{Said}
 use Rattle.bundle.specs.Outcomes.{Outcome, Ends, Refused, ◌>>=◌, next_line}
 use Rattle.bundle.specs.Contents.{Made, made_of}
-use Rattle.bundle.specs.Views.{said_view, what_view}
-use Rattle.bundle.specs.Bundles.{Described, Place, Named, Given, accepted, begun, named, entry_at, next_entry, given_by, bundle_from, entries_in, entry_then, no_entries}
-use Rattle.bundle.specs.Streams.{ComesNext, HasEnded, IsRefused, Stops, Fails, TakesLine, FailsLine, IsWrongLine, Begins, FailsToBegin, TakesGiven, FailsToMake, Says, SaysNothing, FailsEntry}
+use Rattle.bundle.specs.Views.{IsEntry, said_view, what_view}
+use Rattle.bundle.specs.Bundles.{Place, Named, Given, accepted, begun, named, entry_at, next_entry, given_by, bundle_from, entries_in, entry_then, no_entries}
+use Rattle.bundle.specs.Streams.{ComesNext, HasEnded, IsRefused, Stops, Fails, TakesLine, FailsLine, IsWrongLine, Begins, FailsToBegin, place_behind, TakesGiven, FailsToMake, Says, SaysNothing, FailsEntry}
 
 -- ---- the definition, step by step
 
@@ -115,6 +115,23 @@ make-fails place now number said first next line old left after fault begins tak
 
 -- ---- an entry
 
+comes : (place now then : Place) (bytes next line rest : List ℕ) (said : Said) (entry : Entry) (made : Made) (last : Option (List ℕ))
+    → begun place bytes ≡ Ok (record { place = now; bytes = next }) → next_line next ≡ Ok (record { line = line; rest = rest })
+    → accepted now.room now.known (now.line + 1) (record { line = line; rest = rest }) ≡ Ok (record { said = said_view said; rest = rest })
+    → made_of (now.line + 1) (what_view said.what) rest ≡ Ok made → last ≡ Some made.rest
+    → IsEntry (record { path = said.path.now; content = made.content; line = now.line + 1 }) entry
+    → then ≡ place_behind (record now { line = now.line + 1 }) said.path.now made → place.room ≡ suc (now.room - 1)
+    → ComesNext place bytes entry then last
+comes place now then bytes next line rest said entry made last begins read says makes left_is is_entry behind room =
+    let given = is-made place now bytes next line rest begins read (record { said = said_view said; rest = rest }) says made makes in
+    record {
+      described = record { path = said.path.now; content = made.content; line = now.line + 1 };
+      rest = made.rest;
+      is_entry = is_entry;
+      left_is = left_is;
+      bundle = rw behind (entry-first place bytes (given_by now said.path.now made) given room);
+    }
+
 pub entry-comes : (place now then : Place) (number : ℕ) (said : Said) (entry : Entry) (first next line : List ℕ) (old left after last : Option (List ℕ)) → Begins place first old now next left → TakesLine next left line after
     → number ≡ now.line + 1 → Says now.room now.known number line (Some said) → TakesGiven (record now { line = number }) said after entry then last
     → now.room ≡ place.room → then.room + 1 ≡ now.room
@@ -123,14 +140,4 @@ entry-comes place now then number said entry first next line old left after last
     let b = begins bytes told in
     let l = takes b.0 b.1 in
     let m = (rw stands at gives) l.0 l.1 in
-    let named_entry : Named = record { said = said_view said; rest = l.0 } in
-    let is = is-made place now (first ++ bytes) (next ++ b.0) line l.0 b.2 l.2 named_entry ((rw stands at says) l.0) m.0 m.1 in
-    let room : place.room ≡ suc (now.room - 1) = omega (arith, same, fewer) in
-    let described : Described = record { path = said.path.now; content = m.0.content; line = now.line + 1 } in
-    record {
-      described = described;
-      rest = m.0.rest;
-      is_entry = m.3;
-      left_is = m.2;
-      bundle = entry-first place (first ++ bytes) (given_by now said.path.now m.0) is room ∙ ap (λ p. entry_then described (bundle_from p m.0.rest)) (sym m.4);
-    }
+    comes place now then (first ++ bytes) (next ++ b.0) line l.0 said entry m.0 last b.2 l.2 ((rw stands at says) l.0) m.1 m.2 m.3 m.4 (omega (arith, same, fewer))

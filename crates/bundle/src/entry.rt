@@ -18,7 +18,7 @@ impl Model for Bytes {
 
 impl Bytes {
     /// These bytes.
-    pub fn new(held: Vec<u8>) -> Bytes
+    pub(crate) fn new(held: Vec<u8>) -> Bytes
         ensures { result ≡ held.items }
     {
         Bytes { held }
