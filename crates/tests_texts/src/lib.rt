@@ -5,6 +5,8 @@
 #[cfg(test)]
 mod assembling;
 #[cfg(test)]
+mod bundles;
+#[cfg(test)]
 mod lines;
 #[cfg(test)]
 mod sources;
