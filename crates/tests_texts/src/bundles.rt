@@ -382,6 +382,8 @@ fn files_are_made_from_their_lines(rt: HostRuntime) -> Result<(), Fail> {
 const SOURCES: &[u8] = b"\
 asm /init 1|nop|end|hi => 2 file /init elf 120;end hi\n\
 asm /init 3|li a0, 7|li a7, 1|ecall|end => 2 file /init elf 128;end \n\
+asm /init 3|li a7, 1|li a0, 0|ecall|end|hi| => 2 file /init elf 128;end hi|\n\
+asm /init 3|li a7, 1|foo|ecall|end|hi| => BadAsm 4\n\
 asm /init 3|li a0, 7|foo|ecall|end => BadAsm 4\n\
 asm /a 0|end => BadAsm 3\n\
 asm /a 2||# c|end => BadAsm 5\n\
@@ -549,5 +551,34 @@ fn a_source_that_fails_ends_the_reading(rt: HostRuntime) -> Result<(), Fail> {
             assert!(rt; left == b"input\n".len());
         }
     }
+    Ok(())
+}
+
+// The bundle of a session with a pipeline, without its last line feed.
+const PIPELINE: &[u8] = b"\
+keynix bundle 1
+dir /bin
+dir /etc
+user /init init
+user /bin/cat cat
+user /bin/wc wc
+text /etc/motd 2
+hello there
+second line
+end";
+
+#[test]
+fn a_bundle_that_is_cut_short_is_refused(rt: HostRuntime) -> Result<(), Fail> {
+    let alloc = rt.alloc();
+    assert!(rt; PIPELINE.len() == 128);
+    for length in 0..PIPELINE.len() {
+        let mut source = byte_source(alloc, &PIPELINE[..length])?;
+        let (told, has_ended) = told(alloc, None, &mut source)?;
+        assert!(rt; !has_ended && !is_read_fault(told.as_slice()));
+    }
+    let mut source = byte_source(alloc, PIPELINE)?;
+    let (told, has_ended) = told(alloc, None, &mut source)?;
+    assert!(rt; has_ended && told.starts_with(b"2 dir /bin;3 dir /etc;4 file /init elf "));
+    assert!(rt; told.ends_with(b";7 file /etc/motd hello there\nsecond line\n;"));
     Ok(())
 }
