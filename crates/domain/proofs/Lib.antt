@@ -10,3 +10,4 @@ pub mod Filling
 pub mod FillingRoot
 pub mod Born
 pub mod Making
+pub mod Untaken

@@ -6,6 +6,7 @@ use Rattle.kernel_tables.specs.Kernel.{Kernel}
 use Rattle.kernel_tables.specs.Rows.{entry_at, domain_rows, fixed_rows}
 use Rattle.kernel_tables.specs.declared.entry.NodeOwner.TheVariants.{Domain as DomainOwner}
 use Rattle.kernel_tables.specs.declared.entry.Entry.TheVariants.{Taken}
+use Rattle.space_bank.specs.Bank.{BankGood}
 use Rattle.space_bank.specs.FreeList.{is_free}
 use Rattle.space_bank.specs.Laws.{and_outside}
 use Rattle.space_bank.specs.Shares.{Outside, Shares}
@@ -15,7 +16,7 @@ use Rattle.unix_model.specs.Tables.{at, with_at}
 use Rattle.domain.specs.declared.types.State.TheVariants.{Running}
 use Rattle.domain.specs.Domains.{Domain, no_domain, domains, life_in, lives, roots}
 use Rattle.domain.specs.Keys.{is_number, key_of_space}
-use Rattle.domain.specs.Rules.{written}
+use Rattle.domain.specs.Rules.{RowsGood, written}
 
 -- the number of three zeros, and a row with it from one place on, below another
 abbrev pub zero_number : Key
@@ -90,3 +91,7 @@ pub record MakesDomain (old new : Kernel) (slot space root : ℕ) : Type 0 where
   pub rest : KeepsRest old new
   pub number : new.machine.nodes_taken ≡ old.machine.nodes_taken + 3
   pub shares : (outside : Outside) (hand : List Key) → Shares old outside (key_of_space (Some space) ∷ hand) → Shares new outside hand
+
+-- Where no node is taken, the rows of domains hold Null keys alone.
+abbrev pub UntakenRowsGood : Type 0
+UntakenRowsGood = (kernel : Kernel) → BankGood kernel → kernel.machine.nodes_taken ≡ 0 → RowsGood (domain_rows kernel)

@@ -5,12 +5,14 @@
 #![tactic(auto)]
 
 mod keys;
+mod laws;
 mod life;
 mod readers;
 mod setters;
 mod steps;
 mod types;
 
+pub use laws::untaken_rows_are_good;
 pub use life::new_domain;
 pub use readers::buffer::read_buffer;
 pub use readers::slots::root_of;

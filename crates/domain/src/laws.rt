@@ -1,0 +1,8 @@
+//! Laws of the rows of domains.
+
+ghost use Rattle.domain.specs.Life.{UntakenRowsGood};
+
+/// In a bank of which no node is taken the rows of domains are right, and nothing is a root.
+pub fn untaken_rows_are_good()
+    ensures { UntakenRowsGood }
+{}
