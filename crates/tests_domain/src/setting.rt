@@ -11,9 +11,12 @@ ghost use Rattle.domain.specs.declared.types.State.TheVariants.{Waiting};
 ghost use Rattle.domain.specs.Rules.{RowsGood};
 ghost use Rattle.domain.specs.Domains.{domains, lives};
 
-use domain::{Answer, Phase, State, set_answer, set_phase, set_request, set_state};
+use domain::{
+    Answer, Heads, Phase, State, set_answer, set_descriptor, set_heads, set_mark_words, set_phase,
+    set_regs, set_request, set_state,
+};
 use kn_base::{NodeId, Store};
-use unix_model::Request;
+use unix_model::{Regs, Request};
 
 /// Sets the phase of a domain ten times.
 #[tactic(auto, using(unix_model::proofs::TableLaws::tables))]
@@ -56,4 +59,36 @@ pub fn make_request<T: Store>(store: &mut T, root: NodeId, request: Request, ans
     set_answer(store, root, answer);
     set_phase(store, root, Phase::Sent);
     set_state(store, root, State::Waiting, 7);
+}
+
+/// Sets every field of a whole domain but its space and its buffer.
+#[tactic(auto, using(unix_model::proofs::TableLaws::tables))]
+pub fn set_all<T: Store>(
+    store: &mut T,
+    root: NodeId,
+    heads: Heads,
+    request: Request,
+    answer: Answer,
+    regs: &Regs,
+)
+    requires good { BankGood (kernel_of (T.memory store.old)) }
+    requires rows { RowsGood (domain_rows (kernel_of (T.memory store.old))) }
+    requires live { (at (domains (kernel_of (T.memory store.old))) root.0).live ≡ true }
+    requires whole { (at (domains (kernel_of (T.memory store.old))) root.0).whole ≡ true }
+    requires length { request.length ≤ 4096 }
+    requires answer { answer.length ≤ 4096 }
+    ensures live { (at (domains (kernel_of (T.memory store.new))) root.0).live ≡ true }
+    ensures whole { (at (domains (kernel_of (T.memory store.new))) root.0).whole ≡ true }
+    ensures rows { RowsGood (domain_rows (kernel_of (T.memory store.new))) }
+    ensures good { BankGood (kernel_of (T.memory store.new)) }
+{
+    set_heads(store, root, heads);
+    set_request(store, root, request);
+    set_answer(store, root, answer);
+    set_regs(store, root, regs);
+    set_descriptor(store, root, 31, Some(2047));
+    set_descriptor(store, root, 0, Some(0));
+    set_mark_words(store, root, [1, 7, 0]);
+    set_phase(store, root, Phase::Done);
+    set_state(store, root, State::Available, u64::MAX);
 }
