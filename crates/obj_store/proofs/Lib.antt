@@ -1,3 +1,4 @@
 pub mod Blocks
 pub mod Keys
 pub mod Pages
+pub mod Numbers

@@ -1,6 +1,7 @@
 //! A store in memory with marks.
 
-ghost use Rattle.std.specs.Prelude.{◌≡◌, ◌<◌, ◌≤◌, ◌+◌, ◌*◌, ◌%◌, ◌^◌, ℕ, [], length, vec_len, slice_index, slice_index_or, replicate, IfOk};
+ghost use Rattle.std.specs.Prelude.{◌≡◌, ◌<◌, ◌≤◌, ◌+◌, ◌*◌, ◌%◌, ◌^◌, ℕ, [], Some, length, drop, vec_len, slice_index, slice_index_or, replicate, IfOk, IfSome, IsSome};
+ghost use Rattle.kn_base.specs.Keys.{spelled_key};
 ghost use Rattle.kn_base.specs.Memory.{zero_page};
 
 use kn_base::{Counts, Key, NodeId, PageId, Store, bytes_of, key_of};
@@ -206,6 +207,38 @@ fn sixteen_bytes(bytes: &[u8]) -> [u8; 16]
     sixteen
 }
 
+// The body in the sixteen bytes of a key.
+fn body_in(bytes: [u8; 16]) -> [u8; 12]
+    ensures { result ≡ drop 4 bytes }
+{
+    let mut body = [0; 12];
+    body.copy_from_slice(&bytes[4..]);
+    body
+}
+
+// The number that these bytes spell, if they spell a key and it is one. Registers are read so, without spelling them again.
+fn number_in(bytes: [u8; 16]) -> Option<Key>
+    ensures { IfSome result (λ key. IsSome (spelled_key bytes) → spelled_key bytes ≡ Some key) }
+{
+    let [kind, ..] = bytes;
+    if kind == 1 {
+        Some(Key::Number(body_in(bytes)))
+    } else {
+        None
+    }
+}
+
+// The key that these bytes spell.
+fn known_key(bytes: [u8; 16]) -> Key
+    requires { IsSome (spelled_key bytes) }
+    ensures { spelled_key bytes ≡ Some result }
+{
+    match key_of(bytes) {
+        Some(key) => key,
+        None => unreachable!(),
+    }
+}
+
 impl Store for RamStore {
     ghost use Rattle.kn_base.specs.Memory.{Memory, memory_of};
     ghost use Rattle.obj_store.specs.Ram.{KeepsMarks, Ram};
@@ -230,9 +263,10 @@ impl Store for RamStore {
     }
 
     fn key(&self, node: NodeId, place: u8) -> Key {
-        match key_of(self.key_bytes(node, place)) {
+        let bytes = self.key_bytes(node, place);
+        match number_in(bytes) {
             Some(key) => key,
-            None => unreachable!(),
+            None => known_key(bytes),
         }
     }
 
