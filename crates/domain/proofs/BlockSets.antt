@@ -1,5 +1,5 @@
 -- Which blocks several calls change, one after the other.
-use Rattle.std.proofs.Common.{◌≡◌, ℕ, List, [], ◌∷◌, ◌++◌, inl, inr, ⊎_elim, ◌⊎◌, ◌∙◌, Option, Some, None, refl}
+use Rattle.std.proofs.Common.{ℕ, List, [], ◌∷◌, ◌++◌, inl, inr, ⊎_elim, ◌∙◌, Option, Some, None, refl}
 use Rattle.kernel_tables.specs.Kernel.{Kernel}
 use Rattle.domain.specs.Buffers.{BufferBlocks}
 use Rattle.kernel_tables.specs.Blocks.{IsAmong, ChangesBlocks}

@@ -1,26 +1,24 @@
 -- A domain of three fresh nodes.
-use Rattle.std.proofs.Common.{◌≡◌, ◌≢◌, ◌<◌, ◌≤◌, ◌+◌, ◌*◌, ◌/◌, ◌%◌, ℕ, Option, Some, None, Bool, true, false, nat_lt, List, [], ◌∷◌, ◌++◌, refl, ap, sym, subst, ◌∙◌, arith, if◌then◌else◌, ⊎_elim, ◌⊎◌, inl, inr}
+use Rattle.std.proofs.Common.{◌≡◌, ◌≢◌, ◌<◌, ◌≤◌, ◌+◌, ◌/◌, ◌%◌, ℕ, Option, Some, None, Bool, true, false, nat_lt, List, refl, ap, sym, ◌∙◌, arith, if◌then◌else◌, ⊎_elim, ◌⊎◌, inl, inr}
 use Rattle.std.proofs.Math.Path.{fun_ext}
 use Rattle.std.proofs.lemmas.Bool.{cases_eq, cases_lt, cases_Bool, lt-ltb, le-ltb, eq-eqb}
 use Rattle.kn_base.specs.declared.key.Key.{Key}
-use Rattle.kn_base.specs.declared.key.Key.TheVariants.{Null, Number, Node, Segment, Start, Meter, Domain as DomainKey}
+use Rattle.kn_base.specs.declared.key.Key.TheVariants.{Null, Node, Start, Meter, Domain as DomainKey}
 use Rattle.kernel_tables.specs.declared.entry.NodeOwner.{NodeOwner}
 use Rattle.kernel_tables.specs.declared.entry.Entry.{Entry}
 use Rattle.kernel_tables.specs.declared.entry.Entry.TheVariants.{Free, Taken, Fixed, Unspelled}
 use Rattle.kernel_tables.specs.Kernel.{Kernel}
-use Rattle.kernel_tables.specs.Rows.{entry_at, key_table, rows, domain_rows, fixed_rows, of_domain, is_fixed}
+use Rattle.kernel_tables.specs.Rows.{entry_at, rows, domain_rows, of_domain}
 use Rattle.space_bank.specs.FreeList.{is_free}
-use Rattle.space_bank.specs.Laws.{and_outside}
 use Rattle.space_bank.specs.Shares.{Outside, Shares, key_names_node}
-use Rattle.kernel_forest.specs.Moves.{TakesRow, PutsRow}
-use Rattle.kernel_forest.proofs.RowLaws.{domains_apart, fixed_apart}
+use Rattle.kernel_forest.specs.Moves.{TakesRow}
 use Rattle.unix_model.specs.Tables.{at, with_at}
 use Rattle.unix_model.proofs.TableLaws.{with_at-same}
-use Rattle.domain.specs.Keys.{is_number, is_meter, node_in, segment_in, page_in, root_in, word_in, count_in, key_of_space}
-use Rattle.domain.specs.Domains.{Domain, no_domain, full_domain, domain_by, domain_at, words_of, node_words, lives_by, life_in, roots_by}
+use Rattle.domain.specs.Keys.{is_number, is_meter, node_in, root_in, word_in, count_in, key_of_space}
+use Rattle.domain.specs.Domains.{no_domain, full_domain, domain_by, domain_at, words_of, node_words, lives_by, life_in, roots_by}
 use Rattle.domain.specs.Rules.{RootGood, RowsGood, NobodyIn, written}
 use Rattle.domain.specs.Life.{with_zeros, null_row, zero_row, zero_number, root_row, born}
-use Rattle.domain.proofs.RowLaws.{here_at, other_at, changed_at, row_case, written_both, rows_good_same, meter_no_number, number_no_node}
+use Rattle.domain.proofs.RowLaws.{here_at, other_at, changed_at, row_case, written_both, rows_good_same, number_no_node}
 use Rattle.domain.proofs.DomainLaws.{domains_at, lives_row_same}
 use Rattle.domain.proofs.WordLaws.{number_no_meter, no_root}
 

@@ -1,17 +1,15 @@
 -- Fields of domains, while keys of their roots are written.
-use Rattle.std.proofs.Common.{◌≡◌, ◌≢◌, ◌<◌, ◌≤◌, ◌+◌, ◌/◌, ◌%◌, ◌&&◌, ℕ, Option, Some, None, true, false, List, [], ◌∷◌, length, get_or, refl, ap, sym, ◌∙◌, arith}
+use Rattle.std.proofs.Common.{◌≡◌, ◌≢◌, ◌<◌, ◌≤◌, ◌+◌, ◌/◌, ◌%◌, ◌&&◌, ℕ, Option, true, List, [], ◌∷◌, length, get_or, refl, ap, sym, ◌∙◌, arith}
 use Rattle.std.specs.Option.{is_some}
 use Rattle.std.proofs.lemmas.Bool.{lt-ltb}
 use Rattle.kn_base.specs.declared.key.Key.{Key}
 use Rattle.unix_model.specs.Tables.{at, with_at}
 use Rattle.unix_model.proofs.TableLaws.{with_at-twice}
-use Rattle.unix_model.specs.declared.calls.Request.{Request}
 use Rattle.domain.specs.declared.types.Heads.{Heads}
-use Rattle.domain.specs.declared.types.Answer.{Answer}
 use Rattle.domain.specs.Keys.{is_meter, node_in, segment_in, page_in, word_in, words_in, root_in}
-use Rattle.domain.specs.Domains.{Domain, full_domain, domain_at, with_heads, heads_in, lives_by, phase_by, roots_by}
+use Rattle.domain.specs.Domains.{Domain, full_domain, domain_at, with_heads, heads_in, lives_by, roots_by}
 use Rattle.domain.specs.Rules.{RowsGood, written}
-use Rattle.domain.proofs.RowLaws.{here_at, other_at, written_other}
+use Rattle.domain.proofs.RowLaws.{here_at, other_at}
 use Rattle.domain.proofs.DomainLaws.{live_meter, root_domain, root_row_set, lives_row_same, first_word, second_word, third_word}
 
 -- two keys that are written one after the other in a row

@@ -1,21 +1,20 @@
 -- Keys that are written in a node of a domain where Null stood.
-use Rattle.std.proofs.Common.{◌≡◌, ◌≢◌, ◌<◌, ◌≤◌, ◌+◌, ◌*◌, ◌&&◌, ℕ, Option, Some, None, Bool, true, false, nat_lt, List, [], ◌∷◌, ◌++◌, refl, ap, sym, subst, ◌∙◌, arith, append_assoc, if◌then◌else◌, ⊎_elim}
+use Rattle.std.proofs.Common.{◌≡◌, ◌<◌, ◌≤◌, ◌+◌, ◌*◌, ℕ, Some, true, nat_lt, List, [], ◌∷◌, ◌++◌, refl, ap, sym, subst, ◌∙◌, arith, append_assoc, if◌then◌else◌, ⊎_elim}
 use Rattle.std.proofs.Math.Path.{fun_ext}
-use Rattle.std.proofs.lemmas.Bool.{cases_eq, cases_lt, lt-ltb, le-ltb}
+use Rattle.std.proofs.lemmas.Bool.{cases_lt, lt-ltb, le-ltb}
 use Rattle.kn_base.specs.declared.key.Key.{Key}
-use Rattle.kn_base.specs.declared.key.Key.TheVariants.{Null, Number}
+use Rattle.kn_base.specs.declared.key.Key.TheVariants.{Null}
 use Rattle.kernel_tables.specs.Kernel.{Kernel}
-use Rattle.kernel_tables.specs.Rows.{entry_at, key_table, domain_rows, fixed_rows, of_domain, is_fixed}
+use Rattle.kernel_tables.specs.Rows.{entry_at, key_table, domain_rows, of_domain, is_fixed}
 use Rattle.space_bank.specs.Laws.{and_outside}
 use Rattle.space_bank.specs.Shares.{Outside, Shares, NamesNothing}
 use Rattle.space_bank.proofs.HandLaws.{nothing-in_hand}
-use Rattle.kernel_forest.specs.Trees.{forest_of, outside_trees}
+use Rattle.kernel_forest.specs.Trees.{outside_trees}
 use Rattle.kernel_forest.specs.Moves.{PutsRow}
 use Rattle.unix_model.specs.Tables.{at, with_at}
 use Rattle.unix_model.proofs.TableLaws.{with_at-twice, with_at-same}
-use Rattle.domain.specs.Keys.{is_number}
 use Rattle.domain.specs.Life.{Fills, and_all, with_zeros, zero_number}
-use Rattle.domain.proofs.RowLaws.{here_at, other_at, changed_at}
+use Rattle.domain.proofs.RowLaws.{here_at, changed_at}
 use Rattle.domain.proofs.Pages.{null_outside}
 use Rattle.domain.proofs.Writing.{row_key, domain_not_fixed, number_outside}
 

@@ -1,8 +1,8 @@
 -- The keys of the root of a fresh domain, one after the other.
-use Rattle.std.proofs.Common.{◌≡◌, ◌+◌, ◌*◌, ◌<◌, ℕ, Some, None, true, [], ◌∷◌, List, refl, ap, sym, ◌∙◌, arith, add-zero}
+use Rattle.std.proofs.Common.{◌≡◌, ◌+◌, ℕ, Some, true, [], ◌∷◌, refl, ap, ◌∙◌, arith, add-zero}
 use Rattle.std.proofs.Math.Path.{fun_ext}
 use Rattle.kn_base.specs.declared.key.Key.{Key}
-use Rattle.kn_base.specs.declared.key.Key.TheVariants.{Null, Node, Start, Meter}
+use Rattle.kn_base.specs.declared.key.Key.TheVariants.{Node, Start, Meter}
 use Rattle.kernel_tables.specs.Kernel.{Kernel}
 use Rattle.kernel_tables.specs.Rows.{entry_at, domain_rows, of_domain}
 use Rattle.space_bank.specs.Laws.{and_outside}
@@ -12,7 +12,7 @@ use Rattle.unix_model.specs.Tables.{with_at}
 use Rattle.domain.specs.declared.types.State.TheVariants.{Running}
 use Rattle.domain.specs.Keys.{is_number, word_in, count_in, key_of_space}
 use Rattle.domain.specs.Domains.{Life, life_in, state_by}
-use Rattle.domain.specs.Life.{Fills, FillsRoot, with_zeros, null_row, root_row, root_keys}
+use Rattle.domain.specs.Life.{Fills, FillsRoot, with_zeros, null_row, root_row}
 use Rattle.domain.proofs.Filling.{fills_key, fills_quiet, fills_to}
 use Rattle.domain.proofs.Writing.{number_outside, number_nothing}
 

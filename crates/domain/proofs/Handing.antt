@@ -1,18 +1,17 @@
 -- Keys 0 and 5 of a root, which hand over a space and a page.
-use Rattle.std.proofs.Common.{◌≡◌, ◌<◌, ◌≤◌, ℕ, Option, Some, None, true, false, refl, ap, sym, subst, ◌∙◌, arith}
+use Rattle.std.proofs.Common.{◌≡◌, ℕ, Option, Some, None, true, refl, ap, sym, subst, ◌∙◌, arith}
 use Rattle.kn_base.specs.declared.key.Key.{Key}
-use Rattle.kn_base.specs.declared.key.Key.TheVariants.{Null}
 use Rattle.kernel_tables.specs.Kernel.{Kernel}
 use Rattle.kernel_tables.specs.Rows.{domain_rows, fixed_rows, of_domain, is_fixed, entry_at}
 use Rattle.kernel_forest.specs.Moves.{PutsRow}
 use Rattle.unix_model.specs.Tables.{at, with_at}
-use Rattle.domain.specs.Keys.{is_meter, is_number, node_in, segment_in, page_in, key_of_space}
-use Rattle.domain.specs.Domains.{Domain, domains, domain_at, lives, lives_by}
+use Rattle.domain.specs.Keys.{is_meter, node_in, segment_in, key_of_space}
+use Rattle.domain.specs.Domains.{domains, domain_at, lives, lives_by}
 use Rattle.domain.specs.Rules.{RootGood, RowsGood, written}
 use Rattle.domain.specs.Sets.{HandsOver}
-use Rattle.domain.proofs.RowLaws.{row_case, root_unnamed, rows_good_same, root_good_space, root_good_buffer}
+use Rattle.domain.proofs.RowLaws.{row_case, root_unnamed, rows_good_same, root_good_space}
 use Rattle.domain.proofs.DomainLaws.{live_meter}
-use Rattle.domain.proofs.FieldLaws.{space_set, buffer_set, lives_early, root_space, root_buffer}
+use Rattle.domain.proofs.FieldLaws.{space_set, lives_early, root_space}
 use Rattle.domain.proofs.Writing.{root_mine, hands_over, domain_not_fixed}
 
 pub space_again : (space : Option ℕ) → segment_in (key_of_space space) ≡ space

@@ -1,7 +1,5 @@
 -- A domain is made, call by call.
-use Rattle.std.proofs.Common.{◌≡◌, ◌≢◌, ◌<◌, ◌≤◌, ◌+◌, ◌*◌, ◌/◌, ◌%◌, ◌⊎◌, ℕ, Option, Some, None, true, false, List, [], ◌∷◌, ◌++◌, refl, ap, sym, subst, ◌∙◌, arith, ⊎_elim, add_comm, add_assoc}
-use Rattle.std.proofs.Math.Path.{fun_ext}
-use Rattle.std.specs.Prelude.{cond}
+use Rattle.std.proofs.Common.{◌≡◌, ◌≢◌, ◌<◌, ◌+◌, ◌*◌, ◌/◌, ◌%◌, ℕ, Some, true, false, List, [], ◌∷◌, ◌++◌, refl, ap, sym, subst, ◌∙◌, arith, ⊎_elim}
 use Rattle.kn_base.specs.declared.key.Key.{Key}
 use Rattle.kn_base.specs.declared.key.Key.TheVariants.{Null, Node, Start, Domain as DomainKey}
 use Rattle.kernel_tables.specs.declared.entry.NodeOwner.TheVariants.{Domain as DomainOwner}
@@ -13,18 +11,17 @@ use Rattle.space_bank.specs.FreeList.{is_free}
 use Rattle.space_bank.specs.Laws.{and_outside}
 use Rattle.space_bank.specs.Shares.{Outside, Shares}
 use Rattle.space_bank.proofs.HandLaws.{nothing-in_hand, hand-swapped, handed-out}
-use Rattle.kernel_forest.specs.Trees.{forest_of, outside_trees}
+use Rattle.kernel_forest.specs.Trees.{outside_trees}
 use Rattle.kernel_forest.specs.Moves.{TakesRow, PutsRow, KeepsRest}
 use Rattle.kernel_forest.proofs.RowLaws.{domains_apart, fixed_apart}
 use Rattle.unix_model.specs.Tables.{at, with_at}
 use Rattle.domain.specs.declared.types.State.TheVariants.{Running}
 use Rattle.std.proofs.lemmas.Bool.{eq-eqb}
-use Rattle.domain.specs.Keys.{key_of_space}
-use Rattle.domain.specs.Domains.{Domain, no_domain, domains, domain_at, full_domain, node_words, lives, lives_by, life_in, roots_by}
+use Rattle.domain.specs.Keys.{node_in, key_of_space}
+use Rattle.domain.specs.Domains.{Domain, domain_at, lives_by, life_in, roots_by}
 use Rattle.domain.specs.Rules.{RowsGood, NobodyIn, written}
 use Rattle.domain.specs.Life.{Fills, FillsRoot, MakesDomain, with_zeros, null_row, zero_row, root_row, root_keys, and_all, born, slot_key}
 use Rattle.domain.proofs.RowLaws.{here_at, other_at}
-use Rattle.domain.proofs.WordLaws.{no_root}
 use Rattle.domain.proofs.Pages.{null_outside}
 use Rattle.domain.proofs.Filling.{fills_to, and_all-last, and_all-none}
 use Rattle.domain.proofs.Writing.{fixed_key}
@@ -249,9 +246,20 @@ module _ (k0 k1 k2 k3 k4 k5 k6 k7 : Kernel) (slot space r d t : ℕ) (good : Row
         (λ e. ap (λ n. is_free (entry_at k0.node_entries n)) e ∙ ap is_free (sym (middle t t_r t_d)) ∙ u3) other) which;
     rest = rest_trans k0 k1 k7 t1.rest (rest_trans k1 k2 k7 (rest_keys k1 k2 f1.rest) (rest_trans k2 k3 k7 t2.rest (rest_trans k3 k4 k7 (rest_keys k3 k4 f2.rest) (rest_trans k4 k5 k7 t3.rest (rest_trans k5 k6 k7 (rest_keys k5 k6 root.fills.rest)
         (rest_keys k6 k7 (put.state ∙ ap (λ ks. let n : Kernel = record k6 { keys = ks } in n) (sym (ap (λ (k : Kernel). k.keys) put.state)))))))));
+    entry_of_root = after t ∙ t3.entry;
+    entry_of_regs = after r ∙ t3.others r (λ e. t_r (sym e)) ∙ taken_r_too;
+    entry_of_descriptors = after d ∙ t3.others d (λ e. t_d (sym e)) ∙ taken_d;
+    regs_named = ap node_in (root_key_now 3) ∙ root_third root.life slot space r d;
+    descriptors_named = ap node_in (root_key_now 4) ∙ root_fourth root.life slot space r d;
     number = number_now;
     shares = s5;
   }
     where
       before : (outside : Outside) → outside_trees k5 outside ≡ outside_trees k0 outside
       before outside = t3.outside_now outside ∙ f2.outside_now outside ∙ ap (outside_trees k3) (and_all-none outside) ∙ t2.outside_now outside ∙ f1.outside_now outside ∙ ap (outside_trees k1) (and_all-none outside) ∙ t1.outside_now outside
+
+      after : (node : ℕ) → entry_at k7.node_entries node ≡ entry_at k5.node_entries node
+      after node = ap (λ (k : Kernel). entry_at k.node_entries node) put.state ∙ ap (λ (k : Kernel). entry_at k.node_entries node) root.fills.rest
+
+      root_key_now : (place : ℕ) → domain_rows k7 t place ≡ root_row root.life slot space r d place
+      root_key_now place = ap (λ (x : ℕ → ℕ → Key). x t place) (rows7 ∙ root.fills.rows_now) ∙ ap (λ (x : ℕ → Key). x place) (here_at (domain_rows k5) t (root_row root.life slot space r d))

@@ -1,5 +1,5 @@
 -- Pages that belong to no tree, while they are taken and given back.
-use Rattle.std.proofs.Common.{◌≡◌, ◌<◌, ◌≤◌, ◌+◌, ◌-◌, ◌*◌, ℕ, Option, Some, None, Bool, true, false, nat_lt, cond, List, [], ◌∷◌, length, set, get_or-set_same, refl, ap, sym, subst, ◌∙◌, arith, add-zero, if◌then◌else◌}
+use Rattle.std.proofs.Common.{◌≡◌, ◌<◌, ◌+◌, ◌-◌, ◌*◌, ℕ, Some, None, true, false, nat_lt, List, [], ◌∷◌, length, set, get_or-set_same, refl, ap, sym, subst, ◌∙◌, arith, add-zero, if◌then◌else◌}
 use Rattle.std.proofs.Math.Path.{fun_ext}
 use Rattle.std.proofs.lemmas.Bool.{eq-eqb}
 use Rattle.std.specs.Prelude.{slice_index_or}
@@ -16,18 +16,18 @@ use Rattle.kernel_tables.specs.Rows.{entry_at, key_table, domain_rows, fixed_row
 use Rattle.space_bank.specs.FreeList.{is_free}
 use Rattle.space_bank.specs.Bank.{BankGood, TakesPage, IsTakenOnce, page_given}
 use Rattle.space_bank.specs.Laws.{and_outside}
-use Rattle.space_bank.specs.Shares.{Outside, Shares, PutsPageInHand, TakesPageOutOfHand, page_places, key_names_page, key_names_node}
+use Rattle.space_bank.specs.Shares.{Outside, Shares, PutsPageInHand, TakesPageOutOfHand, page_places, key_names_page}
 use Rattle.space_bank.proofs.EntryLaws.{set_cases}
 use Rattle.space_bank.proofs.FreeListLaws.{entry_inside}
 use Rattle.space_bank.proofs.HandLaws.{nothing-in_hand, page-in_hand_unnamed}
-use Rattle.unix_model.specs.Tables.{at, with_at}
-use Rattle.forest.specs.Objects.{Object, PageObject, NodeObject, Owner}
+use Rattle.unix_model.specs.Tables.{at}
+use Rattle.forest.specs.Objects.{Object, PageObject, NodeObject}
 use Rattle.forest.specs.Forest.{masked}
 use Rattle.kernel_forest.specs.Trees.{owner_of, count_of, tree_in, tree_shares, page_tree, forest_of, outside_trees, outside_by}
 use Rattle.kernel_forest.specs.Moves.{PutsRow}
 use Rattle.kernel_forest.proofs.Moves.{forest_same}
 use Rattle.domain.specs.Keys.{is_meter, node_in, page_in}
-use Rattle.domain.specs.Domains.{Domain, domains, domain_at, lives, lives_by}
+use Rattle.domain.specs.Domains.{domains, domain_at, lives_by}
 use Rattle.domain.specs.Rules.{RowsGood, written}
 use Rattle.domain.specs.Buffers.{buffer_key, IsBuffer, HoldsBuffer, TakesBuffer, DropsBuffer}
 use Rattle.domain.proofs.RowLaws.{root_good_buffer}

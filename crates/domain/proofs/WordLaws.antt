@@ -1,10 +1,10 @@
 -- The register node and the descriptor node of a domain, while numbers are written in them.
-use Rattle.std.proofs.Common.{◌≡◌, ◌≢◌, ◌<◌, ◌≤◌, ◌+◌, ◌-◌, ◌*◌, ◌/◌, ◌%◌, ◌^◌, ◌&&◌, ◌⊎◌, ℕ, Bool, Option, Some, None, true, false, nat_lt, List, [], ◌∷◌, ◌++◌, length, get_or, get_or-set_same, get_or-set_other, set, refl, ap, sym, subst, ◌∙◌, arith, add-one, ⊎_elim, if◌then◌else◌, zero, suc, replicate}
+use Rattle.std.proofs.Common.{◌≡◌, ◌≢◌, ◌<◌, ◌≤◌, ◌+◌, ◌-◌, ◌*◌, ◌/◌, ◌%◌, ◌^◌, ◌&&◌, ◌⊎◌, ℕ, Bool, Option, Some, None, true, false, nat_lt, List, [], ◌∷◌, length, get_or, get_or-set_same, get_or-set_other, set, refl, ap, sym, ◌∙◌, arith, ⊎_elim, if◌then◌else◌, zero, suc, replicate}
 use Rattle.std.specs.Option.{is_some, ForSome}
 use Rattle.std.specs.Prelude.{MatchOption}
 use Rattle.std.proofs.Math.Path.{fun_ext}
 use Rattle.std.proofs.lemmas.Bool.{cases_eq, cases_lt, lt-ltb, le-ltb, ne_eqb}
-use Rattle.std.proofs.lemmas.List.{get_or_past, get_or_push, length-append, length-set, ext_get_or}
+use Rattle.std.proofs.lemmas.List.{get_or_push, length-append, length-set, ext_get_or}
 use Rattle.std.proofs.Math.ListN.{get_or-append}
 use Rattle.kn_base.specs.declared.key.Key.{Key}
 use Rattle.kn_base.specs.declared.key.Key.TheVariants.{Number}
@@ -12,10 +12,10 @@ use Rattle.unix_model.specs.Tables.{at, with_at, tabulate}
 use Rattle.unix_model.specs.declared.instructions.Regs.{Regs}
 use Rattle.unix_model.proofs.TableLaws.{with_at-twice, with_at-same}
 use Rattle.domain.specs.Keys.{is_number, is_meter, node_in, word_in, words_in}
-use Rattle.domain.specs.Domains.{Domain, no_domain, full_domain, domain_by, domain_at, words_of, node_words, words_by, regs_by, register_words, description_by, lives_by}
+use Rattle.domain.specs.Domains.{Domain, no_domain, full_domain, domain_by, domain_at, words_of, node_words, words_by, regs_by, description_by, lives_by}
 use Rattle.domain.specs.Rules.{RowsGood, IsNamed, written}
 use Rattle.domain.specs.Sets.{HoldsWords}
-use Rattle.domain.proofs.RowLaws.{here_at, other_at, changed_at, row_case, meter_no_number, number_no_node, root_unnamed, rows_good_same}
+use Rattle.domain.proofs.RowLaws.{here_at, other_at, changed_at, row_case, number_no_node, root_unnamed, rows_good_same}
 use Rattle.domain.proofs.FieldLaws.{root_whole}
 use Rattle.domain.proofs.DomainLaws.{live_meter, words_other, same_domain, a_root, root_domain, lives_row_same, first_word, second_word, third_word}
 

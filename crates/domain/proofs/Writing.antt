@@ -23,7 +23,7 @@ use Rattle.kernel_forest.specs.Moves.{PutsRow}
 use Rattle.kernel_forest.proofs.NoTree.{puts_row}
 use Rattle.kernel_tables.specs.Blocks.{IsAmong, ChangesBlocks, key_block}
 use Rattle.kernel_tables.proofs.BlockLaws.{both_change}
-use Rattle.domain.specs.Keys.{is_number, is_meter, node_in}
+use Rattle.domain.specs.Keys.{is_number, is_meter}
 use Rattle.domain.specs.Rules.{RowsGood, IsNamed}
 use Rattle.domain.specs.Sets.{WritesNumbers, HandsOver}
 

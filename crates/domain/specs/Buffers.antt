@@ -15,7 +15,7 @@ use Rattle.space_bank.specs.Laws.{and_outside}
 use Rattle.space_bank.specs.Shares.{Outside, Shares}
 use Rattle.kernel_forest.specs.Trees.{forest_of, outside_trees}
 use Rattle.unix_model.specs.Tables.{at, with_at}
-use Rattle.domain.specs.Domains.{Domain, domains, lives}
+use Rattle.domain.specs.Domains.{domains, lives}
 
 -- the key of a buffer
 abbrev pub buffer_key : ℕ → Key

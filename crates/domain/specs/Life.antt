@@ -1,5 +1,5 @@
 -- How domains are born and end.
-use Rattle.std.specs.Prelude.{◌≡◌, ◌≢◌, ℕ, ◌+◌, ◌*◌, ◌/◌, ◌%◌, ◌<◌, ◌≤◌, ◌⊎◌, nat_lt, true, false, Option, Some, None, List, [], ◌∷◌, ◌++◌, replicate, if◌then◌else◌}
+use Rattle.std.specs.Prelude.{◌≡◌, ◌≢◌, ℕ, ◌+◌, ◌/◌, ◌%◌, ◌<◌, ◌≤◌, ◌⊎◌, nat_lt, true, Some, List, [], ◌∷◌, ◌++◌, replicate, if◌then◌else◌}
 use Rattle.kn_base.specs.declared.key.Key.{Key}
 use Rattle.kn_base.specs.declared.key.Key.TheVariants.{Null, Number, Node, Start, Meter, Domain as DomainKey}
 use Rattle.kernel_tables.specs.Kernel.{Kernel}
@@ -15,7 +15,7 @@ use Rattle.kernel_forest.specs.Moves.{KeepsRest}
 use Rattle.unix_model.specs.Tables.{at, with_at}
 use Rattle.domain.specs.declared.types.State.TheVariants.{Running}
 use Rattle.domain.specs.Domains.{Domain, no_domain, domains, life_in, lives, roots}
-use Rattle.domain.specs.Keys.{is_number, key_of_space}
+use Rattle.domain.specs.Keys.{is_number, node_in, key_of_space}
 use Rattle.domain.specs.Rules.{RowsGood, written}
 
 -- the number of three zeros, and a row with it from one place on, below another
@@ -88,6 +88,11 @@ pub record MakesDomain (old new : Kernel) (slot space root : ℕ) : Type 0 where
       ≡ outside_trees old (and_all outside (root_keys slot space regs descriptors ++ DomainKey (record { 0 = root }) ∷ []))
   pub entries : (node : ℕ) → node ≢ regs → node ≢ descriptors → node ≢ root → entry_at new.node_entries node ≡ entry_at old.node_entries node
   pub free : (node : ℕ) → (node ≡ regs) ⊎ (node ≡ descriptors) ⊎ (node ≡ root) → is_free (entry_at old.node_entries node) ≡ true
+  pub entry_of_root : entry_at new.node_entries root ≡ Taken DomainOwner 1
+  pub entry_of_regs : entry_at new.node_entries regs ≡ Taken DomainOwner 1
+  pub entry_of_descriptors : entry_at new.node_entries descriptors ≡ Taken DomainOwner 1
+  pub regs_named : node_in (domain_rows new root 3) ≡ Some regs
+  pub descriptors_named : node_in (domain_rows new root 4) ≡ Some descriptors
   pub rest : KeepsRest old new
   pub number : new.machine.nodes_taken ≡ old.machine.nodes_taken + 3
   pub shares : (outside : Outside) (hand : List Key) → Shares old outside (key_of_space (Some space) ∷ hand) → Shares new outside hand

@@ -1,4 +1,4 @@
-use Rattle.std.proofs.Common.{ℕ, ◌≡◌, ◌∙◌, ap, rules}
+use Rattle.std.proofs.Common.{ℕ, ap, rules}
 use Rattle.kn_base.specs.declared.key.Key.{Key}
 use Rattle.kernel_tables.specs.Kernel.{kernel_of}
 use Rattle.domain.proofs.FillingRoot.{fills_root, runs}

@@ -1,8 +1,7 @@
-use Rattle.std.proofs.Common.{◌≡◌, ◌<◌, ◌≤◌, [], ◌∙◌, ap, sym, subst, arith, rules}
-use Rattle.kernel_tables.specs.Kernel.{Kernel, kernel_of}
+use Rattle.std.proofs.Common.{arith, rules}
+use Rattle.kernel_tables.specs.Kernel.{kernel_of}
 use Rattle.kernel_tables.specs.Rows.{domain_rows}
-use Rattle.domain.specs.Life.{with_zeros}
-use Rattle.domain.proofs.Filling.{fills_none, fills_zero, fills_mine}
+use Rattle.domain.proofs.Filling.{fills_none, fills_zero}
 use Rattle.domain.proofs.life.zero_keys.Goals as goal
 
 pub loop-place-init : goal.loop-place-init

@@ -1,11 +1,10 @@
-use Rattle.std.proofs.Common.{◌≡◌, ◌∙◌, [], ◌∷◌, ap, sym, arith, get_or, ℕ, List}
+use Rattle.std.proofs.Common.{◌∙◌, [], ◌∷◌, ap, arith, get_or, ℕ, List}
 use Rattle.kernel_tables.specs.Kernel.{kernel_of}
 use Rattle.kernel_tables.specs.Rows.{domain_rows, fixed_rows}
 use Rattle.unix_model.specs.Tables.{at, with_at}
 use Rattle.unix_model.specs.declared.calls.Request.{Request}
 use Rattle.domain.specs.Domains.{Domain, domain_at, domains, lives_by}
-use Rattle.domain.specs.Keys.{word_in}
-use Rattle.domain.proofs.DomainLaws.{live_meter, first_word, third_word}
+use Rattle.domain.proofs.DomainLaws.{live_meter, third_word}
 use Rattle.domain.proofs.FieldLaws.{request_set, lives_two, four_words}
 use Rattle.domain.proofs.setters.set_request.Goals as goal
 

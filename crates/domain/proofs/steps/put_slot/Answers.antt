@@ -1,4 +1,4 @@
-use Rattle.std.proofs.Common.{◌+◌, ◌<◌, ◌/◌, ◌%◌, ap, arith}
+use Rattle.std.proofs.Common.{◌+◌, ◌/◌, ◌%◌, ap, arith}
 use Rattle.kernel_tables.specs.Kernel.{kernel_of}
 use Rattle.space_bank.specs.FreeList.{is_free}
 use Rattle.domain.proofs.Writing.{slot_put}

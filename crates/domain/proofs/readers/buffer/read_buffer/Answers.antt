@@ -1,4 +1,4 @@
-use Rattle.std.proofs.Common.{◌≡◌, ◌∙◌, ℕ, List, Option, Some, None, true, false, length, ap, sym, subst}
+use Rattle.std.proofs.Common.{◌≡◌, ◌∙◌, None, true, false, length, ap, sym, subst}
 use Rattle.std.specs.Prelude.{IsSome}
 use Rattle.kn_base.specs.Rows.{part_at}
 use Rattle.kernel_tables.specs.Kernel.{kernel_of}

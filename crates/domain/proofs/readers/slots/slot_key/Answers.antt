@@ -1,4 +1,4 @@
-use Rattle.std.proofs.Common.{◌∙◌, ◌+◌, ◌/◌, ◌%◌, ◌<◌, ap, arith}
+use Rattle.std.proofs.Common.{◌∙◌, ◌+◌, ◌/◌, ◌%◌, ◌<◌, arith}
 use Rattle.kernel_tables.specs.Kernel.{kernel_of}
 use Rattle.domain.proofs.Writing.{fixed_key}
 use Rattle.domain.proofs.readers.slots.slot_key.Goals as goal

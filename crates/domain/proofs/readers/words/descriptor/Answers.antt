@@ -1,4 +1,4 @@
-use Rattle.std.proofs.Common.{◌∙◌, ap, sym, ℕ, Option, Some, None}
+use Rattle.std.proofs.Common.{◌∙◌, ap, sym, Some, None}
 use Rattle.kernel_tables.specs.Kernel.{kernel_of}
 use Rattle.kernel_tables.specs.Rows.{domain_rows}
 use Rattle.domain.specs.Domains.{description_by}

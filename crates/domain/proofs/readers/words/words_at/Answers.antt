@@ -1,6 +1,5 @@
-use Rattle.std.proofs.Common.{◌∙◌, ap, sym, arith}
+use Rattle.std.proofs.Common.{◌∙◌, ap, arith}
 use Rattle.kernel_tables.specs.Kernel.{kernel_of}
-use Rattle.kernel_tables.specs.Rows.{domain_rows}
 use Rattle.domain.specs.Keys.{words_in, is_number}
 use Rattle.domain.proofs.Writing.{words_mine, domain_below, row_key}
 use Rattle.domain.proofs.readers.words.words_at.Goals as goal

@@ -1,6 +1,6 @@
-use Rattle.std.proofs.Common.{◌≡◌, ◌∙◌, ◌-◌, ℕ, List, [], ◌∷◌, Option, Some, None, ap, sym, subst, refl}
+use Rattle.std.proofs.Common.{◌≡◌, ◌∙◌, ◌-◌, ℕ, [], ◌∷◌, Option, None, ap, sym, subst, refl}
 use Rattle.std.specs.Prelude.{MatchOption}
-use Rattle.kernel_tables.specs.Kernel.{Kernel, kernel_of, first_page}
+use Rattle.kernel_tables.specs.Kernel.{kernel_of, first_page}
 use Rattle.kernel_tables.specs.Rows.{domain_rows}
 use Rattle.kernel_tables.specs.Blocks.{ChangesBlocks, key_block, page_entry_block, machine_block}
 use Rattle.domain.specs.Buffers.{DropsBuffer}

@@ -1,4 +1,4 @@
-use Rattle.std.proofs.Common.{◌≡◌, ◌∙◌, ◌+◌, ◌<◌, ◌≤◌, ◌-◌, ℕ, List, [], ◌∷◌, ap, sym, subst, arith, inl, inr, refl}
+use Rattle.std.proofs.Common.{◌-◌, [], ◌∷◌, ap, subst, arith}
 use Rattle.kernel_tables.specs.Kernel.{Kernel, kernel_of, first_page}
 use Rattle.kernel_tables.specs.Blocks.{ChangesBlocks, key_block, page_entry_block, machine_block}
 use Rattle.space_bank.proofs.FullLaws.{no_page-free}

@@ -1,4 +1,4 @@
-use Rattle.std.proofs.Common.{◌≡◌, ◌∙◌, ◌-◌, ℕ, List, [], ◌∷◌, ap, sym, subst}
+use Rattle.std.proofs.Common.{◌-◌, [], ◌∷◌, ap, subst}
 use Rattle.kernel_tables.specs.Kernel.{Kernel, kernel_of, first_page}
 use Rattle.kernel_tables.specs.Rows.{domain_rows}
 use Rattle.kernel_tables.specs.Blocks.{ChangesBlocks, key_block, page_entry_block, machine_block}

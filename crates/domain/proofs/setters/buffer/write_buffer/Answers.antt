@@ -1,7 +1,7 @@
-use Rattle.std.proofs.Common.{◌≡◌, ◌≢◌, ◌∙◌, ◌-◌, ℕ, List, [], ◌∷◌, Option, Some, None, true, false, length, ap, sym, subst, refl}
-use Rattle.kernel_tables.specs.Kernel.{Kernel, kernel_of, first_page}
+use Rattle.std.proofs.Common.{◌≡◌, ◌∙◌, ◌-◌, [], ◌∷◌, None, ap, sym, subst}
+use Rattle.kernel_tables.specs.Kernel.{kernel_of, first_page}
 use Rattle.kernel_tables.specs.Rows.{domain_rows}
-use Rattle.kernel_tables.specs.Blocks.{ChangesBlocks, key_block, page_entry_block, machine_block}
+use Rattle.kernel_tables.specs.Blocks.{key_block, page_entry_block, machine_block}
 use Rattle.space_bank.specs.FreeList.{is_free}
 use Rattle.domain.specs.Buffers.{WritesBuffer, BufferBlocks}
 use Rattle.unix_model.specs.Tables.{at}

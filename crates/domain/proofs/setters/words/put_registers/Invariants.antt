@@ -1,5 +1,5 @@
-use Rattle.std.proofs.Common.{ℕ, ◌≡◌, ◌∷◌, []}
-use Rattle.kernel_tables.specs.Kernel.{Kernel, kernel_of}
+use Rattle.std.proofs.Common.{◌∷◌, []}
+use Rattle.kernel_tables.specs.Kernel.{kernel_of}
 use Rattle.kernel_tables.specs.Rows.{domain_rows}
 use Rattle.kernel_tables.specs.Blocks.{ChangesBlocks, key_block}
 use Rattle.space_bank.specs.Bank.{BankGood}

@@ -1,9 +1,8 @@
-use Rattle.std.proofs.Common.{◌∙◌, ap, arith, set, ℕ, List, ◌/◌, ◌%◌, subst, sym}
+use Rattle.std.proofs.Common.{◌∙◌, ap, set, ◌/◌, ◌%◌, subst, sym}
 use Rattle.kernel_tables.specs.Kernel.{kernel_of}
 use Rattle.kernel_tables.specs.Rows.{domain_rows, fixed_rows}
 use Rattle.kernel_tables.specs.Blocks.{ChangesBlocks}
 use Rattle.domain.specs.Domains.{domain_at, lives_by}
-use Rattle.domain.specs.Rules.{IsNamed}
 use Rattle.domain.specs.Sets.{node_blocks}
 use Rattle.domain.proofs.WordLaws.{descriptor_set, description_again, put_lives}
 use Rattle.domain.proofs.setters.words.set_descriptor.Goals as goal

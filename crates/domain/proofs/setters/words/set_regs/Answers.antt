@@ -1,5 +1,5 @@
-use Rattle.std.proofs.Common.{◌∙◌, ap, refl, arith, subst, sym}
-use Rattle.kernel_tables.specs.Kernel.{Kernel, kernel_of}
+use Rattle.std.proofs.Common.{◌∙◌, ap, subst, sym}
+use Rattle.kernel_tables.specs.Kernel.{kernel_of}
 use Rattle.kernel_tables.specs.Rows.{domain_rows, fixed_rows}
 use Rattle.kernel_tables.specs.Blocks.{ChangesBlocks}
 use Rattle.domain.specs.Domains.{lives_by, words_by}
