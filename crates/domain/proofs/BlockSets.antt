@@ -1,8 +1,8 @@
 -- Which blocks several calls change, one after the other.
-use Rattle.std.proofs.Common.{ℕ, List, [], ◌∷◌, ◌++◌, inl, inr, ⊎_elim, ◌∙◌, Option, Some, None, refl}
+use Rattle.std.proofs.Common.{ℕ, List, [], ◌∷◌, ◌++◌, inl, inr, ⊎_elim, ◌∙◌, Option, Some, None, refl, subst, ◌≡◌}
 use Rattle.kernel_tables.specs.Kernel.{Kernel}
 use Rattle.domain.specs.Buffers.{BufferBlocks}
-use Rattle.kernel_tables.specs.Blocks.{IsAmong, ChangesBlocks}
+use Rattle.kernel_tables.specs.Blocks.{IsAmong, ChangesBlocks, key_block, machine_block, node_entry_block}
 
 pub among_left : (block : ℕ) (xs ys : List ℕ) → IsAmong block xs → IsAmong block (xs ++ ys)
 among_left block [] ys h = absurd h
@@ -27,3 +27,19 @@ blocks_within old new xs ys within changes = record { same_number = changes.same
 pub no_buffer_blocks : (kernel : Kernel) (root : ℕ) (buffer : Option ℕ) (blocks : List (List ℕ)) → BufferBlocks kernel root buffer blocks blocks
 no_buffer_blocks kernel root None blocks = (0, record { same_number = refl; others = λ block apart. refl })
 no_buffer_blocks kernel root (Some page) blocks = record { same_number = refl; others = λ block apart. refl }
+
+-- the blocks of a domain that is made
+pub born_changes : (b0 b1 b2 b3 b4 b5 b6 b7 : List (List ℕ)) (size size2 size4 pages pages1 pages3 pages5 pages6 r d t table : ℕ) → size2 ≡ size → size4 ≡ size
+    → pages1 ≡ pages → pages3 ≡ pages → pages5 ≡ pages → pages6 ≡ pages
+    → ChangesBlocks b0 b1 (node_entry_block size r ∷ machine_block ∷ []) → ChangesBlocks b1 b2 (key_block pages1 r ∷ [])
+    → ChangesBlocks b2 b3 (node_entry_block size2 d ∷ machine_block ∷ []) → ChangesBlocks b3 b4 (key_block pages3 d ∷ [])
+    → ChangesBlocks b4 b5 (node_entry_block size4 t ∷ machine_block ∷ []) → ChangesBlocks b5 b6 (key_block pages5 t ∷ []) → ChangesBlocks b6 b7 (key_block pages6 table ∷ [])
+    → ChangesBlocks b0 b7 (node_entry_block size r ∷ machine_block ∷ key_block pages r ∷ node_entry_block size d ∷ machine_block ∷ key_block pages d ∷ node_entry_block size t ∷ machine_block ∷ key_block pages t ∷ key_block pages table ∷ [])
+born_changes b0 b1 b2 b3 b4 b5 b6 b7 size size2 size4 pages pages1 pages3 pages5 pages6 r d t table s2 s4 p1 p3 p5 p6 c1 c2 c3 c4 c5 c6 c7 =
+    blocks_then b0 b2 b7 (node_entry_block size r ∷ machine_block ∷ key_block pages r ∷ []) (node_entry_block size d ∷ machine_block ∷ key_block pages d ∷ node_entry_block size t ∷ machine_block ∷ key_block pages t ∷ key_block pages table ∷ [])
+    (blocks_then b0 b1 b2 (node_entry_block size r ∷ machine_block ∷ []) (key_block pages r ∷ []) c1 (subst (λ p. ChangesBlocks b1 b2 (key_block p r ∷ [])) p1 c2))
+    (blocks_then b2 b4 b7 (node_entry_block size d ∷ machine_block ∷ key_block pages d ∷ []) (node_entry_block size t ∷ machine_block ∷ key_block pages t ∷ key_block pages table ∷ [])
+    (blocks_then b2 b3 b4 (node_entry_block size d ∷ machine_block ∷ []) (key_block pages d ∷ []) (subst (λ s. ChangesBlocks b2 b3 (node_entry_block s d ∷ machine_block ∷ [])) s2 c3) (subst (λ p. ChangesBlocks b3 b4 (key_block p d ∷ [])) p3 c4))
+    (blocks_then b4 b6 b7 (node_entry_block size t ∷ machine_block ∷ key_block pages t ∷ []) (key_block pages table ∷ [])
+    (blocks_then b4 b5 b6 (node_entry_block size t ∷ machine_block ∷ []) (key_block pages t ∷ []) (subst (λ s. ChangesBlocks b4 b5 (node_entry_block s t ∷ machine_block ∷ [])) s4 c5) (subst (λ p. ChangesBlocks b5 b6 (key_block p t ∷ [])) p5 c6))
+    (subst (λ p. ChangesBlocks b6 b7 (key_block p table ∷ [])) p6 c7)))

@@ -6,6 +6,7 @@ use Rattle.kernel_tables.specs.Kernel.{Kernel}
 use Rattle.kernel_tables.specs.Rows.{entry_at, domain_rows, fixed_rows}
 use Rattle.kernel_tables.specs.declared.entry.NodeOwner.TheVariants.{Domain as DomainOwner}
 use Rattle.kernel_tables.specs.declared.entry.Entry.TheVariants.{Taken}
+use Rattle.kernel_tables.specs.Blocks.{key_block, machine_block, node_entry_block}
 use Rattle.space_bank.specs.Bank.{BankGood}
 use Rattle.space_bank.specs.FreeList.{is_free}
 use Rattle.space_bank.specs.Laws.{and_outside}
@@ -100,3 +101,11 @@ pub record MakesDomain (old new : Kernel) (slot space root : ℕ) : Type 0 where
 -- Where no node is taken, the rows of domains hold Null keys alone.
 abbrev pub UntakenRowsGood : Type 0
 UntakenRowsGood = (kernel : Kernel) → BankGood kernel → kernel.machine.nodes_taken ≡ 0 → RowsGood (domain_rows kernel)
+
+-- the blocks that may change where a domain is made: the entries and keys of its three nodes, the machine's words, and the slot table
+abbrev pub node_made : Kernel → ℕ → List ℕ
+node_made kernel node = node_entry_block kernel.size node ∷ machine_block ∷ key_block kernel.pages node ∷ []
+
+abbrev pub born_blocks : Kernel → ℕ → ℕ → ℕ → ℕ → List ℕ
+born_blocks kernel slot regs descriptors root =
+    node_made kernel regs ++ (node_made kernel descriptors ++ (node_made kernel root ++ key_block kernel.pages (11 + slot / 16) ∷ []))

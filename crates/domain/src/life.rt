@@ -6,13 +6,14 @@ ghost use Rattle.kn_base.specs.declared.key.Key.TheVariants.{Null, Start, Node};
 ghost use Rattle.kn_base.specs.Memory.{Memory};
 ghost use Rattle.kernel_tables.specs.Kernel.{Kernel, kernel_of};
 ghost use Rattle.kernel_tables.specs.Rows.{entry_at, of_domain, domain_rows};
+ghost use Rattle.kernel_tables.specs.Blocks.{key_block, ChangesBlocks};
 ghost use Rattle.space_bank.specs.Bank.{BankGood};
 ghost use Rattle.space_bank.specs.FreeList.{is_free};
 ghost use Rattle.space_bank.specs.Shares.{Outside, Shares};
 ghost use Rattle.kernel_forest.specs.Moves.{TakesRow, PutsRow};
 ghost use Rattle.domain.specs.Keys.{key_of_space};
 ghost use Rattle.domain.specs.Rules.{RowsGood};
-ghost use Rattle.domain.specs.Life.{Fills, with_zeros, null_row, slot_key, FillsRoot, MakesDomain};
+ghost use Rattle.domain.specs.Life.{Fills, with_zeros, null_row, slot_key, FillsRoot, MakesDomain, born_blocks};
 
 use super::keys::counted_of;
 use super::steps::{put_row, put_slot, take_row};
@@ -28,6 +29,7 @@ fn zero_keys<T: Store>(store: &mut T, node: NodeId, from: u8, end: u8)
     ensures filled { let old = kernel_of (T.memory store.old) in Fills old (kernel_of (T.memory store.new)) node.0 (with_zeros (domain_rows old node.0) from end) [] }
     ensures mine { of_domain (entry_at (kernel_of (T.memory store.new)).node_entries node.0) ≡ true }
     ensures good { BankGood (kernel_of (T.memory store.new)) }
+    ensures blocks { ChangesBlocks (T.blocks store.old) (T.blocks store.new) (key_block (kernel_of (T.memory store.old)).pages node.0 ∷ []) }
     ensures keeps { T.keeps store.old store.new }
 {
     for place in from..end {
@@ -49,6 +51,7 @@ fn fill_root<T: Store>(
     requires nulls { domain_rows (kernel_of (T.memory store.old)) root.0 ≡ null_row }
     ensures filled { FillsRoot (kernel_of (T.memory store.old)) (kernel_of (T.memory store.new)) root.0 slot space.0 regs.0 descriptors.0 }
     ensures good { BankGood (kernel_of (T.memory store.new)) }
+    ensures blocks { ChangesBlocks (T.blocks store.old) (T.blocks store.new) (key_block (kernel_of (T.memory store.old)).pages root.0 ∷ []) }
     ensures keeps { T.keeps store.old store.new }
 {
     zero_keys(store, root, 7, 13);
@@ -81,6 +84,7 @@ pub fn new_domain<T: Store>(store: &mut T, slot: u8, space: NodeId) -> NodeId
     ensures made { MakesDomain (kernel_of (T.memory store.old)) (kernel_of (T.memory store.new)) slot space.0 result.0 }
     ensures rows { RowsGood (domain_rows (kernel_of (T.memory store.new))) }
     ensures good { BankGood (kernel_of (T.memory store.new)) }
+    ensures blocks { (regs : ℕ) × (descriptors : ℕ) × ChangesBlocks (T.blocks store.old) (T.blocks store.new) (born_blocks (kernel_of (T.memory store.old)) slot regs descriptors result.0) }
     ensures keeps { T.keeps store.old store.new }
 {
     let regs = take_row(store);

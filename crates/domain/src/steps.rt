@@ -4,7 +4,7 @@ ghost use Rattle.std.specs.Prelude.{◌≡◌, ℕ, ◌<◌, ◌+◌, ◌/◌, �
 ghost use Rattle.kn_base.specs.Memory.{Memory};
 ghost use Rattle.kernel_tables.specs.Kernel.{Kernel, kernel_of};
 ghost use Rattle.kernel_tables.specs.Rows.{entry_at, of_domain};
-ghost use Rattle.kernel_tables.specs.Blocks.{key_block, ChangesBlocks};
+ghost use Rattle.kernel_tables.specs.Blocks.{key_block, machine_block, node_entry_block, ChangesBlocks};
 ghost use Rattle.space_bank.specs.Bank.{BankGood};
 ghost use Rattle.kernel_forest.specs.Moves.{PutsRow, TakesRow};
 ghost use Rattle.space_bank.specs.FreeList.{is_free};
@@ -33,6 +33,7 @@ pub fn take_row<T: Store>(store: &mut T) -> NodeId
     ensures taken { TakesRow (kernel_of (T.memory store.old)) (kernel_of (T.memory store.new)) result.0 }
     ensures was_free { is_free (entry_at (kernel_of (T.memory store.old)).node_entries result.0) ≡ true }
     ensures good { BankGood (kernel_of (T.memory store.new)) }
+    ensures blocks { ChangesBlocks (T.blocks store.old) (T.blocks store.new) (node_entry_block (kernel_of (T.memory store.old)).size result.0 ∷ machine_block ∷ []) }
     ensures keeps { T.keeps store.old store.new }
 {
     match take_node(store, NodeOwner::Domain) {

@@ -1,6 +1,7 @@
-use Rattle.std.proofs.Common.{ℕ, ap, rules}
+use Rattle.domain.proofs.Writing.{same_block}
+use Rattle.std.proofs.Common.{ℕ, ap, rules, ◌∙◌}
 use Rattle.kn_base.specs.declared.key.Key.{Key}
-use Rattle.kernel_tables.specs.Kernel.{kernel_of}
+use Rattle.kernel_tables.specs.Kernel.{Kernel, kernel_of}
 use Rattle.domain.proofs.FillingRoot.{fills_root, runs}
 use Rattle.domain.proofs.life.fill_root.Goals as goal
 
@@ -17,3 +18,13 @@ returns-clause-filled g c =
     c.args.root.0 c.args.slot c.args.space.0 c.args.regs.0 c.args.descriptors.0 c.counted_of-life.result c.requires.mine c.requires.nulls
     (runs c.counted_of-life.result c.counted_of-life.ensures.word c.counted_of-life.ensures.count) c.counted_of-life.ensures.number
     c.zero_keys.ensures.filled c.put_row.ensures.put c.put_row-2.ensures.put c.put_row-3.ensures.put c.put_row-4.ensures.put c.put_row-5.ensures.put c.put_row-6.ensures.put
+
+pub returns-clause-blocks : goal.returns-clause-blocks
+returns-clause-blocks g c =
+    (same_block (kernel_of (g.T.Store.memory c.args.store.now)).pages (kernel_of (g.T.Store.memory c.put_row-5.new.store)).pages c.args.root.0 (ap (λ (k : Kernel). k.pages) c.put_row-5.ensures.put.state ∙ (ap (λ (k : Kernel). k.pages) c.put_row-4.ensures.put.state ∙ (ap (λ (k : Kernel). k.pages) c.put_row-3.ensures.put.state ∙ (ap (λ (k : Kernel). k.pages) c.put_row-2.ensures.put.state ∙ (ap (λ (k : Kernel). k.pages) c.put_row.ensures.put.state ∙ (ap (λ (k : Kernel). k.pages) c.zero_keys.ensures.filled.rest))))))
+    (same_block (kernel_of (g.T.Store.memory c.args.store.now)).pages (kernel_of (g.T.Store.memory c.put_row-4.new.store)).pages c.args.root.0 (ap (λ (k : Kernel). k.pages) c.put_row-4.ensures.put.state ∙ (ap (λ (k : Kernel). k.pages) c.put_row-3.ensures.put.state ∙ (ap (λ (k : Kernel). k.pages) c.put_row-2.ensures.put.state ∙ (ap (λ (k : Kernel). k.pages) c.put_row.ensures.put.state ∙ (ap (λ (k : Kernel). k.pages) c.zero_keys.ensures.filled.rest)))))
+    (same_block (kernel_of (g.T.Store.memory c.args.store.now)).pages (kernel_of (g.T.Store.memory c.put_row-3.new.store)).pages c.args.root.0 (ap (λ (k : Kernel). k.pages) c.put_row-3.ensures.put.state ∙ (ap (λ (k : Kernel). k.pages) c.put_row-2.ensures.put.state ∙ (ap (λ (k : Kernel). k.pages) c.put_row.ensures.put.state ∙ (ap (λ (k : Kernel). k.pages) c.zero_keys.ensures.filled.rest))))
+    (same_block (kernel_of (g.T.Store.memory c.args.store.now)).pages (kernel_of (g.T.Store.memory c.put_row-2.new.store)).pages c.args.root.0 (ap (λ (k : Kernel). k.pages) c.put_row-2.ensures.put.state ∙ (ap (λ (k : Kernel). k.pages) c.put_row.ensures.put.state ∙ (ap (λ (k : Kernel). k.pages) c.zero_keys.ensures.filled.rest)))
+    (same_block (kernel_of (g.T.Store.memory c.args.store.now)).pages (kernel_of (g.T.Store.memory c.put_row.new.store)).pages c.args.root.0 (ap (λ (k : Kernel). k.pages) c.put_row.ensures.put.state ∙ (ap (λ (k : Kernel). k.pages) c.zero_keys.ensures.filled.rest))
+    (same_block (kernel_of (g.T.Store.memory c.args.store.now)).pages (kernel_of (g.T.Store.memory c.zero_keys.new.store)).pages c.args.root.0 (ap (λ (k : Kernel). k.pages) c.zero_keys.ensures.filled.rest)
+    c.zero_keys.ensures.blocks c.put_row.ensures.blocks) c.put_row-2.ensures.blocks) c.put_row-3.ensures.blocks) c.put_row-4.ensures.blocks) c.put_row-5.ensures.blocks) c.put_row-6.ensures.blocks)

@@ -1,8 +1,9 @@
-use Rattle.std.proofs.Common.{ℕ, ap, arith, rules}
+use Rattle.std.proofs.Common.{ℕ, ap, arith, rules, ◌∙◌, ◌+◌, ◌/◌}
 use Rattle.kn_base.specs.declared.key.Key.{Key}
 use Rattle.kernel_tables.specs.Kernel.{Kernel, kernel_of}
 use Rattle.kernel_tables.specs.Rows.{of_domain}
 use Rattle.domain.proofs.Born.{fresh_null}
+use Rattle.domain.proofs.BlockSets.{born_changes}
 use Rattle.domain.proofs.Making.{makes_domain, made_good}
 use Rattle.domain.proofs.life.new_domain.Goals as goal
 
@@ -62,3 +63,27 @@ fill_root-requires-clause-mine g c = ap of_domain c.take_row-root.ensures.taken.
 
 pub fill_root-requires-clause-nulls : goal.fill_root-requires-clause-nulls
 fill_root-requires-clause-nulls g c = fresh_null (kernel_of (g.T.Store.memory c.zero_keys-2.new.store)) (kernel_of (g.T.Store.memory c.take_row-root.new.store)) c.take_row-root.result.0 c.take_row-root.ensures.taken
+
+pub returns-clause-blocks : goal.returns-clause-blocks
+returns-clause-blocks g c =
+    let old = (kernel_of (g.T.Store.memory c.args.store.now)) in
+    let k1 = (kernel_of (g.T.Store.memory c.take_row-regs.new.store)) in
+    let k2 = (kernel_of (g.T.Store.memory c.zero_keys.new.store)) in
+    let k3 = (kernel_of (g.T.Store.memory c.take_row-descriptors.new.store)) in
+    let k4 = (kernel_of (g.T.Store.memory c.zero_keys-2.new.store)) in
+    let k5 = (kernel_of (g.T.Store.memory c.take_row-root.new.store)) in
+    let k6 = (kernel_of (g.T.Store.memory c.fill_root.new.store)) in
+    let p1 = ap (λ (k : Kernel). k.pages) c.take_row-regs.ensures.taken.rest in
+    let p2 = ap (λ (k : Kernel). k.pages) c.zero_keys.ensures.filled.rest ∙ p1 in
+    let p3 = ap (λ (k : Kernel). k.pages) c.take_row-descriptors.ensures.taken.rest ∙ p2 in
+    let p4 = ap (λ (k : Kernel). k.pages) c.zero_keys-2.ensures.filled.rest ∙ p3 in
+    let p5 = ap (λ (k : Kernel). k.pages) c.take_row-root.ensures.taken.rest ∙ p4 in
+    let p6 = ap (λ (k : Kernel). k.pages) c.fill_root.ensures.filled.fills.rest ∙ p5 in
+    let s2 = ap (λ (k : Kernel). k.size) c.zero_keys.ensures.filled.rest ∙ ap (λ (k : Kernel). k.size) c.take_row-regs.ensures.taken.rest in
+    let s4 = ap (λ (k : Kernel). k.size) c.zero_keys-2.ensures.filled.rest ∙ ap (λ (k : Kernel). k.size) c.take_row-descriptors.ensures.taken.rest ∙ s2 in (
+      c.take_row-regs.result.0,
+      c.take_row-descriptors.result.0,
+      born_changes (g.T.Store.blocks c.args.store.now) (g.T.Store.blocks c.take_row-regs.new.store) (g.T.Store.blocks c.zero_keys.new.store) (g.T.Store.blocks c.take_row-descriptors.new.store) (g.T.Store.blocks c.zero_keys-2.new.store) (g.T.Store.blocks c.take_row-root.new.store) (g.T.Store.blocks c.fill_root.new.store) (g.T.Store.blocks c.put_slot.new.store)
+          old.size k2.size k4.size old.pages k1.pages k3.pages k5.pages k6.pages c.take_row-regs.result.0 c.take_row-descriptors.result.0 c.take_row-root.result.0 (11 + c.args.slot / 16) s2 s4 p1 p3 p5 p6
+          c.take_row-regs.ensures.blocks c.zero_keys.ensures.blocks c.take_row-descriptors.ensures.blocks c.zero_keys-2.ensures.blocks c.take_row-root.ensures.blocks c.fill_root.ensures.blocks c.put_slot.ensures.blocks,
+    )

@@ -1,5 +1,7 @@
-use Rattle.std.proofs.Common.{arith, rules}
-use Rattle.kernel_tables.specs.Kernel.{kernel_of}
+use Rattle.kernel_tables.proofs.BlockLaws.{no_block}
+use Rattle.domain.proofs.Writing.{same_block}
+use Rattle.std.proofs.Common.{ap, arith, rules}
+use Rattle.kernel_tables.specs.Kernel.{Kernel, kernel_of}
 use Rattle.kernel_tables.specs.Rows.{domain_rows}
 use Rattle.domain.proofs.Filling.{fills_none, fills_zero}
 use Rattle.domain.proofs.life.zero_keys.Goals as goal
@@ -9,6 +11,7 @@ loop-place-init g c = record {
   filled = fills_none (kernel_of (g.T.Store.memory c.args.store.now)) c.args.node.0 c.args.from;
   mine = c.requires.mine;
   good = c.requires.good;
+  blocks = no_block;
   kept = search (g.met.T.Store.keeps_same, rules);
 }
 
@@ -22,5 +25,6 @@ loop-place-preserved g c =
           c.requires.mine (omega arith) (omega arith) (c.requires.nulls c.loop-place.place (omega arith)) c.loop-place.invariant.filled c.put_row.ensures.put;
       mine = c.put_row.ensures.mine;
       good = c.put_row.ensures.good;
+      blocks = same_block old.pages (kernel_of (g.T.Store.memory c.loop-place.store)).pages c.args.node.0 (ap (λ (k : Kernel). k.pages) c.loop-place.invariant.filled.rest) c.loop-place.invariant.blocks c.put_row.ensures.blocks;
       kept = g.met.T.Store.keeps_trans c.args.store.now c.loop-place.store c.put_row.new.store c.loop-place.invariant.kept c.put_row.ensures.keeps;
     }
