@@ -1,5 +1,5 @@
 -- Given schedules as texts, our own: each line says how many turns in a row a slot gets.
-use Rattle.std.specs.Prelude.{ℕ, ◌+◌, Bool, ◌||◌, List, [], ◌∷◌, ◌++◌, length, take, drop, position, replicate, Option, Some, None, Result, Ok, Err, ◌==◌, nat_lt, if◌then◌else◌}
+use Rattle.std.specs.Prelude.{ℕ, ◌+◌, ◌<◌, Bool, ◌||◌, List, [], ◌∷◌, ◌++◌, length, take, drop, position, replicate, Option, Some, None, Result, Ok, Err, ◌==◌, nat_lt, if◌then◌else◌}
 use Rattle.unix_model.specs.Texts.{number_of, lines_of}
 use Rattle.plan.specs.declared.span.Span.{Span}
 
@@ -9,6 +9,10 @@ most_line_bytes = 1024
 
 abbrev pub most_lines : ℕ
 most_lines = 65536
+
+-- one of the 64 slots, with at least one turn
+abbrev pub IsInside : Span → Type 0
+IsInside span = (span.slot < 64) × (0 < span.turns)
 
 -- the space of ASCII
 abbrev pub is_space : ℕ → Bool

@@ -30,6 +30,7 @@ pub fn numbered_span(number: u32, line: &[u8]) -> Option<Span>
     requires short { length line.now ≤ 1024 }
     ensures value { result ≡ model.numbered_span number line.now }
     ensures few { IfSome result (λ span. number ≤ 65536) }
+    ensures inside { IfSome result model.IsInside }
 {
     if MOST_LINES < number {
         return None;
@@ -39,7 +40,8 @@ pub fn numbered_span(number: u32, line: &[u8]) -> Option<Span>
 
 /// The span that a line says.
 fn span_of(line: &[u8]) -> Option<Span>
-    ensures { result ≡ model.span_of line.now }
+    ensures value { result ≡ model.span_of line.now }
+    ensures inside { IfSome result model.IsInside }
 {
     match first_space(line) {
         Some(at) => span_told(
@@ -60,9 +62,10 @@ fn first_space(line: &[u8]) -> Option<usize>
 
 // The span of a slot and a number of turns, where both are there.
 fn span_told(slot: Option<u64>, turns: Option<u64>) -> Option<Span>
-    requires slot { IfSome slot (λ n. n < 2 ^ 8) }
+    requires slot { IfSome slot (λ n. n < 64) }
     requires turns { IfSome turns (λ n. n < 2 ^ 32) }
-    ensures { result ≡ model.span_told slot turns }
+    ensures value { result ≡ model.span_told slot turns }
+    ensures inside { IfSome result model.IsInside }
 {
     match (slot, turns) {
         (Some(slot), Some(turns)) => {

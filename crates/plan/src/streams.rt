@@ -1,8 +1,9 @@
 //! The schedule that a source gives.
 
-ghost use Rattle.std.specs.Prelude.{◌≡◌, ◌+◌, ◌-◌, ◌^◌, ◌<◌, ◌≤◌, [], IfOk, IfErr, IfSome};
+ghost use Rattle.std.specs.Prelude.{◌≡◌, ◌+◌, ◌-◌, ◌^◌, ◌<◌, ◌≤◌, [], All, IfOk, IfErr, IfSome};
 ghost use Rattle.kn_io.specs.Faults.{Rose};
 ghost use Rattle.kn_text.specs.Lines.{pending, lines_begun};
+ghost use Rattle.plan.specs.Plans.{IsInside};
 ghost use Rattle.plan.specs.Streams.{TakesSpan, FailsSpan, IsAtLine, TakesPlan, FailsPlan, CountsSame, lines_told};
 
 use crate::span::{Span, numbered_span};
@@ -42,6 +43,7 @@ pub fn next_span<S: Source>(
     ensures pending { pending reader.new ≡ [] }
     ensures line { IfOk result (λ span. lines_begun reader.new ≡ lines_begun reader.old + lines_told span) }
     ensures few { IfOk result (λ span. IfSome span (λ told. lines_begun reader.new ≤ 65536)) }
+    ensures inside { IfOk result (λ span. IfSome span IsInside) }
     ensures same { CountsSame (S.faults from.new ≡ S.faults from.old) result }
     ensures counted { S.faults from.old ≤ S.faults from.new }
     ensures failed { IfErr result (λ fault. fault ≡ PlanFault.ReadFault → Rose (S.faults from.old) (S.faults from.new)) }
@@ -67,7 +69,8 @@ fn refused(reader: &LineReader) -> PlanFault
     }
 }
 
-/// Reads the schedule that a source gives, to its end: the spans of all its lines.
+/// Reads the schedule that a source gives, to its end: the spans of all its lines, each of a slot below 64 with at least one
+/// turn.
 ///
 /// # Errors
 ///
@@ -76,6 +79,7 @@ fn refused(reader: &LineReader) -> PlanFault
 /// has lost what was read.
 pub fn read_plan<S: Source>(alloc: Global, from: &mut S) -> Result<Vec<Span>, PlanFault>
     ensures taken { IfOk result (λ spans. TakesPlan (S.left from.old) spans.items (S.left from.new)) }
+    ensures inside { IfOk result (λ spans. All IsInside spans.items) }
     ensures fault { IfErr result (λ fault. FailsPlan (S.left from.old) fault) }
     ensures same { CountsSame (S.faults from.new ≡ S.faults from.old) result }
     ensures counted { S.faults from.old ≤ S.faults from.new }

@@ -1,5 +1,7 @@
 use Rattle.std.proofs.Common.{◌≡◌, ◌+◌, [], ◌∷◌, ◌++◌, ◌∙◌}
+use Rattle.std.proofs.lemmas.List.Elements.{All-push}
 use Rattle.kn_text.specs.Lines.{pending, lines_begun}
+use Rattle.plan.specs.Plans.{IsInside}
 use Rattle.plan.proofs.Reading.{so-far-more, first-more, memory-out, read-whole, read-fails}
 use Rattle.plan.proofs.streams.read_plan.Goals as goal
 
@@ -12,6 +14,7 @@ reading-preserved g c =
     record {
       so_far = rw (line, items) more;
       first = rw line first;
+      inside = rw items (All-push IsInside c.reading.spans.items c.in-Ok-Some.span c.reading.invariant.inside (rw c.in-Ok-Some.field-0-is at c.in-Ok-Some.ensures.inside));
       pending = c.in-Ok-Some.ensures.pending;
       few = rw c.in-Ok-Some.field-0-is at c.in-Ok-Some.ensures.few;
       same = c.in-Ok-Some.ensures.same ∙ c.reading.invariant.same;
