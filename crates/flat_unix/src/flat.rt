@@ -30,7 +30,7 @@ pub struct Flat {
 }
 
 impl Flat {
-    ghost use Rattle.std.specs.Prelude.{◌≡◌, ℕ, ◌<◌, ◌≤◌, Bool, true, List, [], Option, Some, None, Err, IfOk, IfErr, OnErr, option_map};
+    ghost use Rattle.std.specs.Prelude.{◌≡◌, ℕ, ◌+◌, ◌*◌, ◌%◌, ◌<◌, ◌≤◌, Bool, true, List, [], Option, Some, None, Err, IfOk, IfErr, OnErr, option_map};
     ghost use Rattle.kn_io.specs.Faults.{Rose};
     ghost use Rattle.kn_io.specs.Sink.{GrewByPrefix};
     ghost use Rattle.unix_model.specs.Calls.{call_of};
@@ -68,6 +68,15 @@ impl Flat {
         ensures below { result < 64 }
     {
         (self.state.position / self.state.quantum) as u8
+    }
+
+    /// How many turns in a row that slot gets still where the turns go round, from this one on.
+    pub fn round_left(&self) -> u32
+        ensures left { (unix_of self.now).position % (unix_of self.now).quantum + result ≡ (unix_of self.now).quantum }
+        ensures some { 0 < result }
+        ensures inside { (unix_of self.now).position < 64 * (unix_of self.now).quantum }
+    {
+        self.state.quantum - self.state.position % self.state.quantum
     }
 
     /// The registers of the process in a slot below 64; None exactly where the slot is free.
