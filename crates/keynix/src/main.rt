@@ -4,7 +4,10 @@
 mod asm;
 mod ending;
 mod finish;
+mod given;
 mod once;
+mod run;
+mod schedule;
 #[cfg(test)]
 mod tests;
 mod top;

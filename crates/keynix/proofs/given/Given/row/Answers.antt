@@ -1,0 +1,5 @@
+use Rattle.keynix.proofs.GivenLaws.{given-some}
+use Rattle.keynix.proofs.given.Given.row.Goals as goal
+
+pub returns-clause-some : goal.returns-clause-some
+returns-clause-some c = given-some c.args.self.now.left c.args.self.now.next c.args.self.now.slot c.args.self.now.spans.items c.args.self.now.current
