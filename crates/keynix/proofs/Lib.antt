@@ -1,7 +1,7 @@
 pub mod RowLaws
 pub mod RunSteps
 pub mod GivenLaws
-pub mod SoFar
 pub mod BootSteps
+pub mod PlanSteps
 pub mod Told
 pub mod LongSource

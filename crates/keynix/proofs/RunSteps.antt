@@ -152,7 +152,7 @@ module _ {S K : Type 0} (left : S → Option (List ℕ)) (grew : K → List ℕ 
 
     -- no turn follows
     pub goes_on-ends : (n made : ℕ) (unix : Unix) (schedule : Schedule) (idle : Bool) (stop : Stop) (source : S) (new : K) → GoesOn whole n input left grew unix schedule made idle source old new
-        → ((bytes : List ℕ) → rest_of idle n unix schedule bytes ≡ ended unix schedule bytes stop) → RunsAs whole left grew unix schedule made stop source old new
+        → ((bytes : List ℕ) → rest_of idle n unix schedule bytes ≡ ended unix schedule bytes stop) → RunsAs whole input left grew unix schedule made stop source old new
     goes_on-ends n made unix schedule idle stop source new before ends =
         let is : whole ≡ turns_then before.taken before.put made (ended unix schedule before.now stop) = before.run_is ∙ ap (turns_then before.taken before.put made) (ends before.now) in
         record {
@@ -161,6 +161,7 @@ module _ {S K : Type 0} (left : S → Option (List ℕ)) (grew : K → List ℕ 
           turns_are = sym (ap (λ (run : RunResult Unix Schedule). run.turns) is ∙ add-zero made);
           stop_is = sym (ap (λ (run : RunResult Unix Schedule). run.stop) is);
           input_left = before.input_left ∙ ap (λ (run : RunResult Unix Schedule). Some run.left) (sym is);
+          input_split = before.input_is ∙ ap₂ (λ taken now. taken ++ now) (sym (ap (λ (run : RunResult Unix Schedule). run.taken) is ∙ append-nil before.taken)) (sym (ap (λ (run : RunResult Unix Schedule). run.left) is));
           output_grew = subst (λ bytes. grew old bytes new) (sym (ap (λ (run : RunResult Unix Schedule). run.put) is ∙ append-nil before.put)) before.output_grew;
         }
 

@@ -1,16 +1,17 @@
 -- From the ending that was told to the promise of each status.
-use Rattle.std.proofs.Common.{◌≡◌, ◌≢◌, ℕ, List, ◌⊎◌, Option, Some, None, Result, Ok, Err, refl, sym, ap, subst, ◌∙◌, inl, inr, arith}
+use Rattle.std.proofs.Common.{◌≡◌, ◌≢◌, ℕ, List, ◌⊎◌, true, Option, Some, None, Result, Ok, Err, refl, sym, ap, subst, ◌∙◌, inl, inr, arith}
 use Rattle.kn_io.specs.Sink.{GrewByPrefix}
+use Rattle.unix_model.specs.Machine as machine
 use Rattle.unix_model.specs.Notes.{spent_note}
-use Rattle.unix_model.specs.State.{Unix}
-use Rattle.unix_model.specs.Words.{Command, Once, Asm}
+use Rattle.unix_model.specs.Schedule.{Schedule}
+use Rattle.keynix.specs.Words.{Command, Once, Asm, Setup}
 use Rattle.rv_asm.specs.Programs as asm
 use Rattle.keynix.specs.declared.ending.Ending.{Ending}
-use Rattle.keynix.specs.declared.ending.Ending.TheVariants.{Halted, TurnsSpent, Idle, Assembled, Usage, Refused, NotAssembled, ReadFault, WriteFault, NoMemory}
+use Rattle.keynix.specs.declared.ending.Ending.TheVariants.{Halted, TurnsSpent, Idle, Assembled, Usage, Refused, NotAssembled, BadPlan, ReadFault, WriteFault, NoMemory}
 use Rattle.keynix.specs.declared.ending.Refusal.{Refusal}
-use Rattle.keynix.specs.Endings.{Ends, EndsAssembly, IsCaused, KeepsOutput, RunsOn, RefusesAs, WritesFile, WritesPart, boot_of, run_of}
-use Rattle.keynix.specs.Promises.{Answers, ByCommand, HaltsOn, IdlesOn, SpendsOn, RefusesInput, RefusesOn, stop_status}
-use Rattle.keynix.specs.Telling.{Tells, TakesMemory, PutsNote, PutsPartOfNote, ending_note, ending_status, idle_note, refusal_note, usage_note, read_fault_note, write_fault_note, no_memory_note}
+use Rattle.keynix.specs.Endings.{Booted, Ends, EndsAssembly, EndsOnce, EndsPlan, FromPlan, IsCaused, IsPlan, IsSpent, KeepsOutput, PlanEnds, RefusesPlanAs, RunsOn, RefusesAs, WritesFile, WritesPart, boot_of, run_of, schedule_told}
+use Rattle.keynix.specs.Promises.{Answers, ByCommand, HaltsOn, IdlesOn, IsPlanOf, ReadCause, SpendsOn, RefusesInput, RefusesPlan, RefusesOn, is_status, stop_status}
+use Rattle.keynix.specs.Telling.{Tells, TakesMemory, PutsNote, PutsPartOfNote, ending_note, ending_status, idle_note, plan_note, refusal_note, usage_note, read_fault_note, write_fault_note, no_memory_note}
 
 -- a status that no failed note gives is the ending's, and its note was put
 pub status-is : {E : Type 0} (noted : E → List ℕ → E → Type 0) (rose : Type 0) (ending : Ending) (old new : E) (status n : ℕ) → Tells noted rose ending old new status → status ≡ n → n ≢ 4 → n ≢ 6
@@ -19,12 +20,31 @@ status-is noted rose ending old new status n (inl told) e other six = (sym told.
 status-is noted rose ending old new status n (inr (inl told)) e other six = absurd (other (sym e ∙ told.0))
 status-is noted rose ending old new status n (inr (inr told)) e other six = absurd (six (sym e ∙ told.0))
 
-module _ {S K E : Type 0} (left : S → Option (List ℕ)) (grew : K → List ℕ → K → Type 0) (noted : E → List ℕ → E → Type 0) (read write : Type 0) (source_old source_new : S) (output_old output_new : K) (notes_old notes_new : E) where
+-- every ending has one of the statuses
+ending-status : (ending : Ending) → is_status (ending_status ending) ≡ true
+ending-status (Halted word) = refl
+ending-status (TurnsSpent made) = refl
+ending-status (Idle made) = refl
+ending-status Assembled = refl
+ending-status Usage = refl
+ending-status (Refused refusal) = refl
+ending-status (NotAssembled kind line) = refl
+ending-status (BadPlan line) = refl
+ending-status ReadFault = refl
+ending-status WriteFault = refl
+ending-status NoMemory = refl
+
+pub status-one : {E : Type 0} (noted : E → List ℕ → E → Type 0) (rose : Type 0) (ending : Ending) (old new : E) (status : ℕ) → Tells noted rose ending old new status → is_status status ≡ true
+status-one noted rose ending old new status (inl told) = ap is_status told.0 ∙ ending-status ending
+status-one noted rose ending old new status (inr (inl told)) = ap is_status told.0
+status-one noted rose ending old new status (inr (inr told)) = ap is_status told.0
+
+module _ {S P K E : Type 0} (left : S → Option (List ℕ)) (plan_left : P → Option (List ℕ)) (grew : K → List ℕ → K → Type 0) (noted : E → List ℕ → E → Type 0) (read plan_read write : Type 0) (source_old source_new : S) (plan_old plan_new : P) (output_old output_new : K) (notes_old notes_new : E) where
   -- the words are no command
-  usage_by : (command : Option Command) (ending : Ending) → ByCommand command left grew read write source_old source_new output_old output_new ending → ending_status ending ≡ 1 → PutsNote noted (ending_note ending) notes_old notes_new
-      → (command ≡ None) × noted notes_old usage_note notes_new × (source_new ≡ source_old) × (output_new ≡ output_old)
-  usage_by None Usage follows e note = (refl, note, follows.1, follows.2)
-  usage_by (Some (Once turns)) Usage follows e note = absurd follows.0
+  usage_by : (command : Option Command) (ending : Ending) → ByCommand command left plan_left grew read plan_read write source_old source_new plan_old plan_new output_old output_new ending → ending_status ending ≡ 1 → PutsNote noted (ending_note ending) notes_old notes_new
+      → (command ≡ None) × noted notes_old usage_note notes_new
+  usage_by None Usage follows e note = (refl, note)
+  usage_by (Some (Once setup)) Usage follows e note = absurd follows.0
   usage_by (Some Asm) Usage follows e note = absurd follows.0
   usage_by command (Halted word) follows e note = absurd (omega (arith, e))
   usage_by command (TurnsSpent made) follows e note = absurd (omega (arith, e))
@@ -32,36 +52,57 @@ module _ {S K E : Type 0} (left : S → Option (List ℕ)) (grew : K → List �
   usage_by command Assembled follows e note = absurd (omega (arith, e))
   usage_by command (Refused refusal) follows e note = absurd (omega (arith, e))
   usage_by command (NotAssembled kind line) follows e note = absurd (omega (arith, e))
+  usage_by command (BadPlan line) follows e note = absurd (omega (arith, e))
   usage_by command ReadFault follows e note = absurd (omega (arith, e))
   usage_by command WriteFault follows e note = absurd (omega (arith, e))
   usage_by command NoMemory follows e note = absurd (omega (arith, e))
 
   -- the machine halted
-  halted_by : (turns : ℕ) (bytes : List ℕ) (booted : Result Unix Refusal) (ending : Ending) → boot_of bytes ≡ booted → Ends turns booted left grew source_new output_old output_new ending → ending_status ending ≡ 0 → PutsNote noted (ending_note ending) notes_old notes_new
-      → HaltsOn turns bytes left grew noted source_new output_old output_new notes_old notes_new
-  halted_by turns bytes (Ok unix) (Halted word) same runs e note = record { unix = unix; word = word; boots = same; runs = runs; notes_grew = note }
-  halted_by turns bytes (Err refusal) (Halted word) same never e note = absurd never
-  halted_by turns bytes (Ok unix) Assembled same never e note = absurd never
-  halted_by turns bytes (Err refusal) Assembled same never e note = absurd never
-  halted_by turns bytes booted (TurnsSpent made) same ends e note = absurd (omega (arith, e))
-  halted_by turns bytes booted (Idle made) same ends e note = absurd (omega (arith, e))
-  halted_by turns bytes booted Usage same ends e note = absurd (omega (arith, e))
-  halted_by turns bytes booted (Refused refusal) same ends e note = absurd (omega (arith, e))
-  halted_by turns bytes booted (NotAssembled kind line) same ends e note = absurd (omega (arith, e))
-  halted_by turns bytes booted ReadFault same ends e note = absurd (omega (arith, e))
-  halted_by turns bytes booted WriteFault same ends e note = absurd (omega (arith, e))
-  halted_by turns bytes booted NoMemory same ends e note = absurd (omega (arith, e))
+  halted_by : (setup : Setup) (text bytes : List ℕ) (schedule : Schedule) (booted : Result Booted Refusal) (ending : Ending) → schedule_told setup.plan text ≡ Ok schedule → EndsPlan setup.plan (plan_left plan_new) ending → boot_of setup bytes ≡ booted → Ends setup.turns schedule booted left grew source_new output_old output_new ending
+      → ending_status ending ≡ 0 → PutsNote noted (ending_note ending) notes_old notes_new
+      → HaltsOn setup text bytes left grew noted (plan_left plan_new) source_new output_old output_new notes_old notes_new
+  halted_by setup text bytes schedule (Ok booted) (Halted word) is ended same runs e note =
+      record { schedule = schedule; booted = booted; word = word; begins = record { plan_is = is; plan_ended = ended; boots = same }; runs = runs.0; stop_is = runs.1; notes_grew = note }
+  halted_by setup text bytes schedule (Err refusal) (Halted word) is ended same never e note = absurd never
+  halted_by setup text bytes schedule (Ok booted) Assembled is ended same never e note = absurd never
+  halted_by setup text bytes schedule (Err refusal) Assembled is ended same never e note = absurd never
+  halted_by setup text bytes schedule booted (TurnsSpent made) is ended same ends e note = absurd (omega (arith, e))
+  halted_by setup text bytes schedule booted (Idle made) is ended same ends e note = absurd (omega (arith, e))
+  halted_by setup text bytes schedule booted Usage is ended same ends e note = absurd (omega (arith, e))
+  halted_by setup text bytes schedule booted (Refused refusal) is ended same ends e note = absurd (omega (arith, e))
+  halted_by setup text bytes schedule booted (NotAssembled kind line) is ended same ends e note = absurd (omega (arith, e))
+  halted_by setup text bytes schedule booted (BadPlan line) is ended same ends e note = absurd (omega (arith, e))
+  halted_by setup text bytes schedule booted ReadFault is ended same ends e note = absurd (omega (arith, e))
+  halted_by setup text bytes schedule booted WriteFault is ended same ends e note = absurd (omega (arith, e))
+  halted_by setup text bytes schedule booted NoMemory is ended same ends e note = absurd (omega (arith, e))
+
+  halted_once : (setup : Setup) (text bytes : List ℕ) (told : Result Schedule ℕ) (ending : Ending) → schedule_told setup.plan text ≡ told → EndsOnce setup told left grew (plan_left plan_new) source_old source_new output_old output_new ending → left source_old ≡ Some bytes
+      → ending_status ending ≡ 0 → PutsNote noted (ending_note ending) notes_old notes_new
+      → HaltsOn setup text bytes left grew noted (plan_left plan_new) source_new output_old output_new notes_old notes_new
+  halted_once setup text bytes (Ok schedule) ending is ends known e note = halted_by setup text bytes schedule (boot_of setup bytes) ending is ends.0 refl (ends.1 bytes known) e note
+  halted_once setup text bytes (Err line) (Halted word) is never known e note = absurd never
+  halted_once setup text bytes (Err line) Assembled is never known e note = absurd never
+  halted_once setup text bytes (Err refused) (TurnsSpent made) is ends known e note = absurd (omega (arith, e))
+  halted_once setup text bytes (Err refused) (Idle made) is ends known e note = absurd (omega (arith, e))
+  halted_once setup text bytes (Err refused) Usage is ends known e note = absurd (omega (arith, e))
+  halted_once setup text bytes (Err refused) (Refused refusal) is ends known e note = absurd (omega (arith, e))
+  halted_once setup text bytes (Err refused) (NotAssembled kind line) is ends known e note = absurd (omega (arith, e))
+  halted_once setup text bytes (Err refused) (BadPlan line) is ends known e note = absurd (omega (arith, e))
+  halted_once setup text bytes (Err refused) ReadFault is ends known e note = absurd (omega (arith, e))
+  halted_once setup text bytes (Err refused) WriteFault is ends known e note = absurd (omega (arith, e))
+  halted_once setup text bytes (Err refused) NoMemory is ends known e note = absurd (omega (arith, e))
 
   -- the file was written
   written_by : (meaning : Result asm.Program asm.Refusal) (ending : Ending) → KeepsOutput output_old output_new ending → EndsAssembly meaning left grew source_new output_old output_new ending → ending_status ending ≡ 0 → PutsNote noted (ending_note ending) notes_old notes_new
       → WritesFile meaning left grew source_new output_old output_new × (notes_new ≡ notes_old)
   written_by meaning Assembled keeps ends e note = (ends, note)
   written_by meaning (Halted word) keeps ends e note = absurd keeps
-  written_by meaning (TurnsSpent made) keeps ends e note = absurd keeps
-  written_by meaning (Idle made) keeps ends e note = absurd keeps
-  written_by meaning Usage keeps ends e note = absurd keeps
-  written_by meaning (Refused refusal) keeps ends e note = absurd keeps
+  written_by meaning (TurnsSpent made) keeps ends e note = absurd (omega (arith, e))
+  written_by meaning (Idle made) keeps ends e note = absurd (omega (arith, e))
+  written_by meaning Usage keeps ends e note = absurd (omega (arith, e))
+  written_by meaning (Refused refusal) keeps ends e note = absurd (omega (arith, e))
   written_by meaning (NotAssembled kind line) keeps ends e note = absurd (omega (arith, e))
+  written_by meaning (BadPlan line) keeps ends e note = absurd (omega (arith, e))
   written_by meaning ReadFault keeps ends e note = absurd (omega (arith, e))
   written_by meaning WriteFault keeps ends e note = absurd (omega (arith, e))
   written_by meaning NoMemory keeps ends e note = absurd (omega (arith, e))
@@ -76,88 +117,138 @@ module _ {S K E : Type 0} (left : S → Option (List ℕ)) (grew : K → List �
   part_written_by whole meaning (Idle made) keeps ends = absurd keeps
   part_written_by whole meaning Usage keeps ends = absurd keeps
   part_written_by whole meaning (Refused refusal) keeps ends = absurd keeps
+  part_written_by whole meaning (BadPlan line) keeps ends = absurd keeps
   part_written_by whole meaning (NotAssembled kind line) keeps ends = inl keeps
   part_written_by whole meaning ReadFault keeps ends = inl keeps
   part_written_by whole meaning NoMemory keeps ends = inl keeps
 
   -- all turns were made
-  spent_by : (command : Option Command) (ending : Ending) → ByCommand command left grew read write source_old source_new output_old output_new ending → ending_status ending ≡ 9 → PutsNote noted (ending_note ending) notes_old notes_new
-      → (bytes : List ℕ) → left source_old ≡ Some bytes → SpendsOn command bytes left grew noted source_new output_old output_new notes_old notes_new
-  spent_by None (TurnsSpent made) follows e note bytes told = cc
-  spent_by (Some Asm) (TurnsSpent made) follows e note bytes told = absurd follows.1
-  spent_by (Some (Once turns)) (TurnsSpent made) follows e note bytes told = spent_on turns made bytes note (boot_of bytes) refl (follows.1 bytes told)
-    where
-      spent_on : (turns made : ℕ) (bytes : List ℕ) → noted notes_old (spent_note made) notes_new → (booted : Result Unix Refusal) → boot_of bytes ≡ booted → Ends turns booted left grew source_new output_old output_new (TurnsSpent made)
-          → SpendsOn (Some (Once turns)) bytes left grew noted source_new output_old output_new notes_old notes_new
-      spent_on turns made bytes note (Ok unix) same runs =
-          record { turns = turns; unix = unix; command_is = refl; boots = same; runs = runs.0; notes_grew = subst (λ number. noted notes_old (spent_note number) notes_new) (sym runs.1) note }
-      spent_on turns made bytes note (Err refusal) same never = absurd never
-  spent_by command (Halted word) follows e note bytes told = absurd (omega (arith, e))
-  spent_by command (Idle made) follows e note bytes told = absurd (omega (arith, e))
-  spent_by command Assembled follows e note bytes told = absurd (omega (arith, e))
-  spent_by command Usage follows e note bytes told = absurd (omega (arith, e))
-  spent_by command (Refused refusal) follows e note bytes told = absurd (omega (arith, e))
-  spent_by command (NotAssembled kind line) follows e note bytes told = absurd (omega (arith, e))
-  spent_by command ReadFault follows e note bytes told = absurd (omega (arith, e))
-  spent_by command WriteFault follows e note bytes told = absurd (omega (arith, e))
-  spent_by command NoMemory follows e note bytes told = absurd (omega (arith, e))
+  spent_on : (setup : Setup) (text bytes : List ℕ) (schedule : Schedule) (made : ℕ) (booted : Result Booted Refusal) → schedule_told setup.plan text ≡ Ok schedule → PlanEnds setup.plan (plan_left plan_new) → boot_of setup bytes ≡ booted → Ends setup.turns schedule booted left grew source_new output_old output_new (TurnsSpent made)
+      → noted notes_old (spent_note made) notes_new → SpendsOn (Some (Once setup)) text bytes left grew noted (plan_left plan_new) source_new output_old output_new notes_old notes_new
+  spent_on setup text bytes schedule made (Ok booted) is ended same runs note =
+      record {
+        setup = setup;
+        schedule = schedule;
+        booted = booted;
+        command_is = refl;
+        begins = record { plan_is = is; plan_ended = ended; boots = same };
+        runs = runs.0;
+        stop_is = runs.1;
+        notes_grew = subst (λ number. noted notes_old (spent_note number) notes_new) (sym runs.2) note;
+      }
+  spent_on setup text bytes schedule made (Err refusal) is ended same never note = absurd never
+
+  spent_once : (setup : Setup) (text bytes : List ℕ) (made : ℕ) (told : Result Schedule ℕ) → schedule_told setup.plan text ≡ told → EndsOnce setup told left grew (plan_left plan_new) source_old source_new output_old output_new (TurnsSpent made) → left source_old ≡ Some bytes
+      → noted notes_old (spent_note made) notes_new → SpendsOn (Some (Once setup)) text bytes left grew noted (plan_left plan_new) source_new output_old output_new notes_old notes_new
+  spent_once setup text bytes made (Ok schedule) is ends known note = spent_on setup text bytes schedule made (boot_of setup bytes) is ends.0 refl (ends.1 bytes known) note
+  spent_once setup text bytes made (Err line) is never known note = absurd never
+
+  spent_by : (command : Option Command) (ending : Ending) → ByCommand command left plan_left grew read plan_read write source_old source_new plan_old plan_new output_old output_new ending → ending_status ending ≡ 9 → PutsNote noted (ending_note ending) notes_old notes_new
+      → (text bytes : List ℕ) → IsPlanOf command (plan_left plan_old) text → left source_old ≡ Some bytes → SpendsOn command text bytes left grew noted (plan_left plan_new) source_new output_old output_new notes_old notes_new
+  spent_by None (TurnsSpent made) follows e note text bytes plan known = cc
+  spent_by (Some Asm) (TurnsSpent made) follows e note text bytes plan known = absurd follows.1
+  spent_by (Some (Once setup)) (TurnsSpent made) follows e note text bytes plan known = spent_once setup text bytes made (schedule_told setup.plan text) refl (follows.1 text plan) known note
+  spent_by command (Halted word) follows e note text bytes plan known = absurd (omega (arith, e))
+  spent_by command (Idle made) follows e note text bytes plan known = absurd (omega (arith, e))
+  spent_by command Assembled follows e note text bytes plan known = absurd (omega (arith, e))
+  spent_by command Usage follows e note text bytes plan known = absurd (omega (arith, e))
+  spent_by command (Refused refusal) follows e note text bytes plan known = absurd (omega (arith, e))
+  spent_by command (NotAssembled kind line) follows e note text bytes plan known = absurd (omega (arith, e))
+  spent_by command (BadPlan line) follows e note text bytes plan known = absurd (omega (arith, e))
+  spent_by command ReadFault follows e note text bytes plan known = absurd (omega (arith, e))
+  spent_by command WriteFault follows e note text bytes plan known = absurd (omega (arith, e))
+  spent_by command NoMemory follows e note text bytes plan known = absurd (omega (arith, e))
 
   -- the machine is idle
-  idle_by : (command : Option Command) (ending : Ending) → ByCommand command left grew read write source_old source_new output_old output_new ending → ending_status ending ≡ 10 → PutsNote noted (ending_note ending) notes_old notes_new
-      → (bytes : List ℕ) → left source_old ≡ Some bytes → IdlesOn command bytes left grew noted source_new output_old output_new notes_old notes_new
-  idle_by None (Idle made) follows e note bytes told = cc
-  idle_by (Some Asm) (Idle made) follows e note bytes told = absurd follows.1
-  idle_by (Some (Once turns)) (Idle made) follows e note bytes told = idle_on turns made bytes note (boot_of bytes) refl (follows.1 bytes told)
-    where
-      idle_on : (turns made : ℕ) (bytes : List ℕ) → noted notes_old (idle_note made) notes_new → (booted : Result Unix Refusal) → boot_of bytes ≡ booted → Ends turns booted left grew source_new output_old output_new (Idle made)
-          → IdlesOn (Some (Once turns)) bytes left grew noted source_new output_old output_new notes_old notes_new
-      idle_on turns made bytes note (Ok unix) same runs =
-          record { turns = turns; unix = unix; command_is = refl; boots = same; runs = runs.0; notes_grew = subst (λ number. noted notes_old (idle_note number) notes_new) (sym runs.1) note }
-      idle_on turns made bytes note (Err refusal) same never = absurd never
-  idle_by command (Halted word) follows e note bytes told = absurd (omega (arith, e))
-  idle_by command (TurnsSpent made) follows e note bytes told = absurd (omega (arith, e))
-  idle_by command Assembled follows e note bytes told = absurd (omega (arith, e))
-  idle_by command Usage follows e note bytes told = absurd (omega (arith, e))
-  idle_by command (Refused refusal) follows e note bytes told = absurd (omega (arith, e))
-  idle_by command (NotAssembled kind line) follows e note bytes told = absurd (omega (arith, e))
-  idle_by command ReadFault follows e note bytes told = absurd (omega (arith, e))
-  idle_by command WriteFault follows e note bytes told = absurd (omega (arith, e))
-  idle_by command NoMemory follows e note bytes told = absurd (omega (arith, e))
+  idle_on : (setup : Setup) (text bytes : List ℕ) (schedule : Schedule) (made : ℕ) (booted : Result Booted Refusal) → schedule_told setup.plan text ≡ Ok schedule → PlanEnds setup.plan (plan_left plan_new) → boot_of setup bytes ≡ booted → Ends setup.turns schedule booted left grew source_new output_old output_new (Idle made)
+      → noted notes_old (idle_note made) notes_new → IdlesOn (Some (Once setup)) text bytes left grew noted (plan_left plan_new) source_new output_old output_new notes_old notes_new
+  idle_on setup text bytes schedule made (Ok booted) is ended same runs note =
+      record {
+        setup = setup;
+        schedule = schedule;
+        booted = booted;
+        command_is = refl;
+        begins = record { plan_is = is; plan_ended = ended; boots = same };
+        runs = runs.0;
+        stop_is = runs.1;
+        notes_grew = subst (λ number. noted notes_old (idle_note number) notes_new) (sym runs.2) note;
+      }
+  idle_on setup text bytes schedule made (Err refusal) is ended same never note = absurd never
 
-  -- the input is refused
-  refused_by : (command : Option Command) (ending : Ending) → ByCommand command left grew read write source_old source_new output_old output_new ending → ending_status ending ≡ 2 → PutsNote noted (ending_note ending) notes_old notes_new
-      → (bytes : List ℕ) → left source_old ≡ Some bytes → RefusesOn command bytes noted output_old output_new notes_old notes_new
-  refused_by None (Refused refusal) follows e note bytes told = cc
-  refused_by (Some Asm) (Refused refusal) follows e note bytes told = absurd follows.1
-  refused_by None (NotAssembled kind line) follows e note bytes told = cc
-  refused_by (Some Asm) (NotAssembled kind line) follows e note bytes told =
-      record { refusal = record { kind = kind; line = line }; means = follows.2 bytes told; output_stays = follows.1; notes_grew = note }
-  refused_by (Some (Once turns)) (NotAssembled kind line) follows e note bytes told = never (boot_of bytes) (follows.1 bytes told)
-    where
-      never : (booted : Result Unix Refusal) → Ends turns booted left grew source_new output_old output_new (NotAssembled kind line) → RefusesInput bytes noted output_old output_new notes_old notes_new
-      never (Ok unix) ends = absurd ends
-      never (Err refusal) ends = absurd ends
-  refused_by (Some (Once turns)) (Refused refusal) follows e note bytes told = refused_on turns refusal bytes note (boot_of bytes) refl (follows.1 bytes told)
-    where
-      refused_on : (turns : ℕ) (refusal : _) (bytes : List ℕ) → noted notes_old (refusal_note refusal) notes_new → (booted : Result Unix Refusal) → boot_of bytes ≡ booted → Ends turns booted left grew source_new output_old output_new (Refused refusal)
-          → RefusesInput bytes noted output_old output_new notes_old notes_new
-      refused_on turns refusal bytes note (Ok unix) same never = absurd never
-      refused_on turns refusal bytes note (Err why) same refuses =
-          record { refusal = why; boots = same; output_stays = refuses.1; notes_grew = subst (λ told. noted notes_old (refusal_note told) notes_new) (sym refuses.0) note }
-  refused_by command (Halted word) follows e note bytes told = absurd (omega (arith, e))
-  refused_by command (TurnsSpent made) follows e note bytes told = absurd (omega (arith, e))
-  refused_by command (Idle made) follows e note bytes told = absurd (omega (arith, e))
-  refused_by command Assembled follows e note bytes told = absurd (omega (arith, e))
-  refused_by command Usage follows e note bytes told = absurd (omega (arith, e))
-  refused_by command ReadFault follows e note bytes told = absurd (omega (arith, e))
-  refused_by command WriteFault follows e note bytes told = absurd (omega (arith, e))
-  refused_by command NoMemory follows e note bytes told = absurd (omega (arith, e))
+  idle_once : (setup : Setup) (text bytes : List ℕ) (made : ℕ) (told : Result Schedule ℕ) → schedule_told setup.plan text ≡ told → EndsOnce setup told left grew (plan_left plan_new) source_old source_new output_old output_new (Idle made) → left source_old ≡ Some bytes
+      → noted notes_old (idle_note made) notes_new → IdlesOn (Some (Once setup)) text bytes left grew noted (plan_left plan_new) source_new output_old output_new notes_old notes_new
+  idle_once setup text bytes made (Ok schedule) is ends known note = idle_on setup text bytes schedule made (boot_of setup bytes) is ends.0 refl (ends.1 bytes known) note
+  idle_once setup text bytes made (Err line) is never known note = absurd never
 
-  -- a call of the input failed
-  read_by : (command : Option Command) (ending : Ending) → ByCommand command left grew read write source_old source_new output_old output_new ending → ending_status ending ≡ 3 → PutsNote noted (ending_note ending) notes_old notes_new
-      → read × noted notes_old read_fault_note notes_new
+  idle_by : (command : Option Command) (ending : Ending) → ByCommand command left plan_left grew read plan_read write source_old source_new plan_old plan_new output_old output_new ending → ending_status ending ≡ 10 → PutsNote noted (ending_note ending) notes_old notes_new
+      → (text bytes : List ℕ) → IsPlanOf command (plan_left plan_old) text → left source_old ≡ Some bytes → IdlesOn command text bytes left grew noted (plan_left plan_new) source_new output_old output_new notes_old notes_new
+  idle_by None (Idle made) follows e note text bytes plan known = cc
+  idle_by (Some Asm) (Idle made) follows e note text bytes plan known = absurd follows.1
+  idle_by (Some (Once setup)) (Idle made) follows e note text bytes plan known = idle_once setup text bytes made (schedule_told setup.plan text) refl (follows.1 text plan) known note
+  idle_by command (Halted word) follows e note text bytes plan known = absurd (omega (arith, e))
+  idle_by command (TurnsSpent made) follows e note text bytes plan known = absurd (omega (arith, e))
+  idle_by command Assembled follows e note text bytes plan known = absurd (omega (arith, e))
+  idle_by command Usage follows e note text bytes plan known = absurd (omega (arith, e))
+  idle_by command (Refused refusal) follows e note text bytes plan known = absurd (omega (arith, e))
+  idle_by command (NotAssembled kind line) follows e note text bytes plan known = absurd (omega (arith, e))
+  idle_by command (BadPlan line) follows e note text bytes plan known = absurd (omega (arith, e))
+  idle_by command ReadFault follows e note text bytes plan known = absurd (omega (arith, e))
+  idle_by command WriteFault follows e note text bytes plan known = absurd (omega (arith, e))
+  idle_by command NoMemory follows e note text bytes plan known = absurd (omega (arith, e))
+
+  -- the plan or the input is refused
+  refused_on : (setup : Setup) (text bytes : List ℕ) (schedule : Schedule) (refusal : Refusal) (booted : Result Booted Refusal) → schedule_told setup.plan text ≡ Ok schedule → PlanEnds setup.plan (plan_left plan_new) → boot_of setup bytes ≡ booted → Ends setup.turns schedule booted left grew source_new output_old output_new (Refused refusal)
+      → noted notes_old (refusal_note refusal) notes_new → RefusesInput setup text bytes noted (plan_left plan_new) notes_old notes_new
+  refused_on setup text bytes schedule refusal (Ok booted) is ended same never note = absurd never
+  refused_on setup text bytes schedule refusal (Err why) is ended same refuses note =
+      record { schedule = schedule; refusal = why; plan_is = is; plan_ended = ended; boots = same; notes_grew = subst (λ told. noted notes_old (refusal_note told) notes_new) (sym refuses.0) note }
+
+  refused_once : (setup : Setup) (text bytes : List ℕ) (told : Result Schedule ℕ) (ending : Ending) → schedule_told setup.plan text ≡ told → EndsOnce setup told left grew (plan_left plan_new) source_old source_new output_old output_new ending → left source_old ≡ Some bytes
+      → ending_status ending ≡ 2 → PutsNote noted (ending_note ending) notes_old notes_new → RefusesPlan setup text noted notes_old notes_new ⊎ RefusesInput setup text bytes noted (plan_left plan_new) notes_old notes_new
+  refused_once setup text bytes (Ok schedule) (Refused refusal) is ends known e note = inr (refused_on setup text bytes schedule refusal (boot_of setup bytes) is ends.0 refl (ends.1 bytes known) note)
+  refused_once setup text bytes (Ok schedule) (NotAssembled kind line) is ends known e note = absurd (never (boot_of setup bytes) (ends.1 bytes known))
+    where
+      never : (booted : Result Booted Refusal) → Ends setup.turns schedule booted left grew source_new output_old output_new (NotAssembled kind line) → ⊥
+      never (Ok booted) ends = ends
+      never (Err refusal) ends = ends
+  refused_once setup text bytes (Ok schedule) (BadPlan line) is ends known e note = absurd (never (boot_of setup bytes) (ends.1 bytes known))
+    where
+      never : (booted : Result Booted Refusal) → Ends setup.turns schedule booted left grew source_new output_old output_new (BadPlan line) → ⊥
+      never (Ok booted) ends = ends
+      never (Err refusal) ends = ends
+  refused_once setup text bytes (Err refused) (BadPlan line) is ends known e note = inl (record { line = refused; plan_is = is; notes_grew = subst (λ told. noted notes_old (plan_note told) notes_new) (sym ends.0) note })
+  refused_once setup text bytes (Err refused) (Refused refusal) is never known e note = absurd never
+  refused_once setup text bytes (Err refused) (NotAssembled kind line) is never known e note = absurd never
+  refused_once setup text bytes told (Halted word) is ends known e note = absurd (omega (arith, e))
+  refused_once setup text bytes told (TurnsSpent made) is ends known e note = absurd (omega (arith, e))
+  refused_once setup text bytes told (Idle made) is ends known e note = absurd (omega (arith, e))
+  refused_once setup text bytes told Assembled is ends known e note = absurd (omega (arith, e))
+  refused_once setup text bytes told Usage is ends known e note = absurd (omega (arith, e))
+  refused_once setup text bytes told ReadFault is ends known e note = absurd (omega (arith, e))
+  refused_once setup text bytes told WriteFault is ends known e note = absurd (omega (arith, e))
+  refused_once setup text bytes told NoMemory is ends known e note = absurd (omega (arith, e))
+
+  refused_by : (command : Option Command) (ending : Ending) → ByCommand command left plan_left grew read plan_read write source_old source_new plan_old plan_new output_old output_new ending → ending_status ending ≡ 2 → PutsNote noted (ending_note ending) notes_old notes_new
+      → (text bytes : List ℕ) → IsPlanOf command (plan_left plan_old) text → left source_old ≡ Some bytes → RefusesOn command text bytes noted (plan_left plan_new) notes_old notes_new
+  refused_by None ending follows e note text bytes plan known = absurd (omega (arith, sym (ap ending_status follows.0) ∙ e))
+  refused_by (Some (Once setup)) ending follows e note text bytes plan known = refused_once setup text bytes (schedule_told setup.plan text) ending refl (follows.1 text plan) known e note
+  refused_by (Some Asm) (NotAssembled kind line) follows e note text bytes plan known = record { refusal = record { kind = kind; line = line }; means = follows.2 bytes known; notes_grew = note }
+  refused_by (Some Asm) (Refused refusal) follows e note text bytes plan known = absurd follows.1
+  refused_by (Some Asm) (BadPlan line) follows e note text bytes plan known = absurd follows.1
+  refused_by (Some Asm) (Halted word) follows e note text bytes plan known = absurd (omega (arith, e))
+  refused_by (Some Asm) (TurnsSpent made) follows e note text bytes plan known = absurd (omega (arith, e))
+  refused_by (Some Asm) (Idle made) follows e note text bytes plan known = absurd (omega (arith, e))
+  refused_by (Some Asm) Assembled follows e note text bytes plan known = absurd (omega (arith, e))
+  refused_by (Some Asm) Usage follows e note text bytes plan known = absurd (omega (arith, e))
+  refused_by (Some Asm) ReadFault follows e note text bytes plan known = absurd (omega (arith, e))
+  refused_by (Some Asm) WriteFault follows e note text bytes plan known = absurd (omega (arith, e))
+  refused_by (Some Asm) NoMemory follows e note text bytes plan known = absurd (omega (arith, e))
+
+  -- a call of the plan or of the input failed
+  read_by : (command : Option Command) (ending : Ending) → ByCommand command left plan_left grew read plan_read write source_old source_new plan_old plan_new output_old output_new ending → ending_status ending ≡ 3 → PutsNote noted (ending_note ending) notes_old notes_new
+      → ReadCause command read plan_read × noted notes_old read_fault_note notes_new
   read_by None ReadFault follows e note = cc
-  read_by (Some (Once turns)) ReadFault follows e note = (follows.0, note)
+  read_by (Some (Once setup)) ReadFault follows e note = (follows.0, note)
   read_by (Some Asm) ReadFault follows e note = (follows.0, note)
   read_by command (Halted word) follows e note = absurd (omega (arith, e))
   read_by command (TurnsSpent made) follows e note = absurd (omega (arith, e))
@@ -166,36 +257,40 @@ module _ {S K E : Type 0} (left : S → Option (List ℕ)) (grew : K → List �
   read_by command Usage follows e note = absurd (omega (arith, e))
   read_by command (Refused refusal) follows e note = absurd (omega (arith, e))
   read_by command (NotAssembled kind line) follows e note = absurd (omega (arith, e))
+  read_by command (BadPlan line) follows e note = absurd (omega (arith, e))
   read_by command WriteFault follows e note = absurd (omega (arith, e))
   read_by command NoMemory follows e note = absurd (omega (arith, e))
 
-  module _ (rose : Type 0) (command : Option Command) (status : ℕ) (answers : Answers command left grew noted read write rose source_old source_new output_old output_new notes_old notes_new status) where
+  module _ (rose : Type 0) (command : Option Command) (status : ℕ) (answers : Answers command left plan_left grew noted read plan_read write rose source_old source_new plan_old plan_new output_old output_new notes_old notes_new status) where
     -- what follows from the words that were given
-    by_command : (given : Option Command) → command ≡ given → ByCommand given left grew read write source_old source_new output_old output_new answers.ending
-    by_command given is = subst (λ command. ByCommand command left grew read write source_old source_new output_old output_new answers.ending) is answers.follows
+    by_command : (given : Option Command) → command ≡ given → ByCommand given left plan_left grew read plan_read write source_old source_new plan_old plan_new output_old output_new answers.ending
+    by_command given is = subst (λ command. ByCommand command left plan_left grew read plan_read write source_old source_new plan_old plan_new output_old output_new answers.ending) is answers.follows
 
-    pub usage-told : status ≡ 1 → (command ≡ None) × noted notes_old usage_note notes_new × (source_new ≡ source_old) × (output_new ≡ output_old)
+    pub status-told : is_status status ≡ true
+    status-told = status-one noted rose answers.ending notes_old notes_new status answers.told
+
+    pub usage-told : status ≡ 1 → (command ≡ None) × noted notes_old usage_note notes_new
     usage-told e = let is = status-is noted rose answers.ending notes_old notes_new status 1 answers.told e (omega arith) (omega arith) in usage_by command answers.ending answers.follows is.0 is.1
 
-    pub spent-told : status ≡ 9 → (bytes : List ℕ) → left source_old ≡ Some bytes → SpendsOn command bytes left grew noted source_new output_old output_new notes_old notes_new
+    pub spent-told : status ≡ 9 → (text bytes : List ℕ) → IsPlanOf command (plan_left plan_old) text → left source_old ≡ Some bytes → SpendsOn command text bytes left grew noted (plan_left plan_new) source_new output_old output_new notes_old notes_new
     spent-told e = let is = status-is noted rose answers.ending notes_old notes_new status 9 answers.told e (omega arith) (omega arith) in spent_by command answers.ending answers.follows is.0 is.1
 
-    pub idle-told : status ≡ 10 → (bytes : List ℕ) → left source_old ≡ Some bytes → IdlesOn command bytes left grew noted source_new output_old output_new notes_old notes_new
+    pub idle-told : status ≡ 10 → (text bytes : List ℕ) → IsPlanOf command (plan_left plan_old) text → left source_old ≡ Some bytes → IdlesOn command text bytes left grew noted (plan_left plan_new) source_new output_old output_new notes_old notes_new
     idle-told e = let is = status-is noted rose answers.ending notes_old notes_new status 10 answers.told e (omega arith) (omega arith) in idle_by command answers.ending answers.follows is.0 is.1
 
-    pub refused-told : status ≡ 2 → (bytes : List ℕ) → left source_old ≡ Some bytes → RefusesOn command bytes noted output_old output_new notes_old notes_new
+    pub refused-told : status ≡ 2 → (text bytes : List ℕ) → IsPlanOf command (plan_left plan_old) text → left source_old ≡ Some bytes → RefusesOn command text bytes noted (plan_left plan_new) notes_old notes_new
     refused-told e = let is = status-is noted rose answers.ending notes_old notes_new status 2 answers.told e (omega arith) (omega arith) in refused_by command answers.ending answers.follows is.0 is.1
 
-    pub read-told : status ≡ 3 → read × noted notes_old read_fault_note notes_new
+    pub read-told : status ≡ 3 → ReadCause command read plan_read × noted notes_old read_fault_note notes_new
     read-told e = let is = status-is noted rose answers.ending notes_old notes_new status 3 answers.told e (omega arith) (omega arith) in read_by command answers.ending answers.follows is.0 is.1
 
     -- the output's or the notes' count rose
-    written : (ending : Ending) → ByCommand command left grew read write source_old source_new output_old output_new ending → ending_status ending ≡ 4 → write
+    written : (ending : Ending) → ByCommand command left plan_left grew read plan_read write source_old source_new plan_old plan_new output_old output_new ending → ending_status ending ≡ 4 → write
     written WriteFault follows e = cause command follows
       where
-        cause : (command : Option Command) → ByCommand command left grew read write source_old source_new output_old output_new WriteFault → write
+        cause : (command : Option Command) → ByCommand command left plan_left grew read plan_read write source_old source_new plan_old plan_new output_old output_new WriteFault → write
         cause None follows = cc
-        cause (Some (Once turns)) follows = follows.0
+        cause (Some (Once setup)) follows = follows.0
         cause (Some Asm) follows = follows.0
     written (Halted word) follows e = absurd (omega (arith, e))
     written (TurnsSpent made) follows e = absurd (omega (arith, e))
@@ -204,6 +299,7 @@ module _ {S K E : Type 0} (left : S → Option (List ℕ)) (grew : K → List �
     written Usage follows e = absurd (omega (arith, e))
     written (Refused refusal) follows e = absurd (omega (arith, e))
     written (NotAssembled kind line) follows e = absurd (omega (arith, e))
+    written (BadPlan line) follows e = absurd (omega (arith, e))
     written ReadFault follows e = absurd (omega (arith, e))
     written NoMemory follows e = absurd (omega (arith, e))
 
@@ -215,25 +311,34 @@ module _ {S K E : Type 0} (left : S → Option (List ℕ)) (grew : K → List �
         by (inr (inl told)) = inr told.1
         by (inr (inr told)) = absurd (omega (arith, told.0, e))
 
-    -- all of an ending's note, or nothing
-    note_part : ((a b : E) (x : List ℕ) → noted a x b → GrewByPrefix noted a x b) → (ending : Ending) → ending_status ending ≡ 4 → PutsNote noted (ending_note ending) notes_old notes_new → PutsPartOfNote noted notes_old notes_new
-    note_part whole WriteFault e note = (WriteFault, write_fault_note, refl, whole notes_old notes_new write_fault_note note)
-    note_part whole (Halted word) e note = absurd (omega (arith, e))
-    note_part whole (TurnsSpent made) e note = absurd (omega (arith, e))
-    note_part whole (Idle made) e note = absurd (omega (arith, e))
-    note_part whole Assembled e note = absurd (omega (arith, e))
-    note_part whole Usage e note = absurd (omega (arith, e))
-    note_part whole (Refused refusal) e note = absurd (omega (arith, e))
-    note_part whole (NotAssembled kind line) e note = absurd (omega (arith, e))
-    note_part whole ReadFault e note = absurd (omega (arith, e))
-    note_part whole NoMemory e note = absurd (omega (arith, e))
+    -- all of the note of a write fault
+    note_whole : (ending : Ending) → ending_status ending ≡ 4 → PutsNote noted (ending_note ending) notes_old notes_new → noted notes_old write_fault_note notes_new
+    note_whole WriteFault e note = note
+    note_whole (Halted word) e note = absurd (omega (arith, e))
+    note_whole (TurnsSpent made) e note = absurd (omega (arith, e))
+    note_whole (Idle made) e note = absurd (omega (arith, e))
+    note_whole Assembled e note = absurd (omega (arith, e))
+    note_whole Usage e note = absurd (omega (arith, e))
+    note_whole (Refused refusal) e note = absurd (omega (arith, e))
+    note_whole (NotAssembled kind line) e note = absurd (omega (arith, e))
+    note_whole (BadPlan line) e note = absurd (omega (arith, e))
+    note_whole ReadFault e note = absurd (omega (arith, e))
+    note_whole NoMemory e note = absurd (omega (arith, e))
 
     pub note-part-told : ((a b : E) (x : List ℕ) → noted a x b → GrewByPrefix noted a x b) → status ≡ 4 → PutsPartOfNote noted notes_old notes_new
     note-part-told whole e = by answers.told
       where
         by : Tells noted rose answers.ending notes_old notes_new status → PutsPartOfNote noted notes_old notes_new
-        by (inl told) = note_part whole answers.ending (sym told.0 ∙ e) told.1
+        by (inl told) = (WriteFault, write_fault_note, refl, whole notes_old notes_new write_fault_note (note_whole answers.ending (sym told.0 ∙ e) told.1))
         by (inr (inl told)) = told.2
+        by (inr (inr told)) = absurd (omega (arith, told.0, e))
+
+    pub note-whole-told : status ≡ 4 → ¬ rose → noted notes_old write_fault_note notes_new
+    note-whole-told e quiet = by answers.told
+      where
+        by : Tells noted rose answers.ending notes_old notes_new status → noted notes_old write_fault_note notes_new
+        by (inl told) = note_whole answers.ending (sym told.0 ∙ e) told.1
+        by (inr (inl told)) = absurd (quiet told.1)
         by (inr (inr told)) = absurd (omega (arith, told.0, e))
 
     -- host memory ran out
@@ -246,6 +351,7 @@ module _ {S K E : Type 0} (left : S → Option (List ℕ)) (grew : K → List �
     no_memory_by Usage e note = absurd (omega (arith, e))
     no_memory_by (Refused refusal) e note = absurd (omega (arith, e))
     no_memory_by (NotAssembled kind line) e note = absurd (omega (arith, e))
+    no_memory_by (BadPlan line) e note = absurd (omega (arith, e))
     no_memory_by ReadFault e note = absurd (omega (arith, e))
     no_memory_by WriteFault e note = absurd (omega (arith, e))
 
@@ -269,36 +375,86 @@ module _ {S K E : Type 0} (left : S → Option (List ℕ)) (grew : K → List �
         by (inr (inl told)) = inr (told.0, told.1)
         by (inr (inr told)) = absurd (subst TakesMemory (usage_ending none) told.1)
 
+    pub usage-untouched : command ≡ None → (source_new ≡ source_old) × (output_new ≡ output_old)
+    usage-untouched none = ((by_command None none).1, (by_command None none).2)
+
     -- the output got a front of what the run puts, and all of it where the run was made whole
-    part_by : (whole : (a b : K) (x : List ℕ) → grew a x b → GrewByPrefix grew a x b) (turns : ℕ) (unix : Unix) (ending : Ending) → RunsOn turns unix left grew source_new output_old output_new ending
-        → GrewByPrefix grew output_old (run_of turns unix).put output_new
-    part_by whole turns unix (Halted word) runs = whole output_old output_new _ runs.output_grew
-    part_by whole turns unix (TurnsSpent made) runs = whole output_old output_new _ runs.0.output_grew
-    part_by whole turns unix (Idle made) runs = whole output_old output_new _ runs.0.output_grew
-    part_by whole turns unix ReadFault runs = runs
-    part_by whole turns unix WriteFault runs = runs
-    part_by whole turns unix NoMemory runs = runs
-    part_by whole turns unix Assembled runs = absurd runs
-    part_by whole turns unix Usage runs = absurd runs
-    part_by whole turns unix (Refused refusal) runs = absurd runs
-    part_by whole turns unix (NotAssembled kind line) runs = absurd runs
+    part_by : (whole : (a b : K) (x : List ℕ) → grew a x b → GrewByPrefix grew a x b) (turns : ℕ) (schedule : Schedule) (booted : Booted) (ending : Ending) → RunsOn (run_of turns schedule booted) booted.input left grew source_new output_old output_new ending
+        → GrewByPrefix grew output_old (run_of turns schedule booted).put output_new
+    part_by whole turns schedule booted (Halted word) runs = whole output_old output_new _ runs.0.output_grew
+    part_by whole turns schedule booted (TurnsSpent made) runs = whole output_old output_new _ runs.0.output_grew
+    part_by whole turns schedule booted (Idle made) runs = whole output_old output_new _ runs.0.output_grew
+    part_by whole turns schedule booted ReadFault runs = runs
+    part_by whole turns schedule booted WriteFault runs = runs
+    part_by whole turns schedule booted NoMemory runs = runs
+    part_by whole turns schedule booted Assembled runs = absurd runs
+    part_by whole turns schedule booted Usage runs = absurd runs
+    part_by whole turns schedule booted (Refused refusal) runs = absurd runs
+    part_by whole turns schedule booted (NotAssembled kind line) runs = absurd runs
+    part_by whole turns schedule booted (BadPlan line) runs = absurd runs
 
-    -- the ending of an input that boots, or doesn't
-    ends_on : (turns : ℕ) (bytes : List ℕ) → command ≡ Some (Once turns) → left source_old ≡ Some bytes → Ends turns (boot_of bytes) left grew source_new output_old output_new answers.ending
-    ends_on turns bytes given told = (by_command (Some (Once turns)) given).1 bytes told
+    -- the ending of `once`
+    once_on : (setup : Setup) (text : List ℕ) → command ≡ Some (Once setup) → IsPlan setup.plan (plan_left plan_old) text → EndsOnce setup (schedule_told setup.plan text) left grew (plan_left plan_new) source_old source_new output_old output_new answers.ending
+    once_on setup text given plan = (by_command (Some (Once setup)) given).1 text plan
 
-    pub halted-told : status ≡ 0 → (turns : ℕ) (bytes : List ℕ) → command ≡ Some (Once turns) → left source_old ≡ Some bytes → HaltsOn turns bytes left grew noted source_new output_old output_new notes_old notes_new
-    halted-told e turns bytes given told =
+    caused_by : (setup : Setup) → command ≡ Some (Once setup) → IsCaused (read ⊎ FromPlan setup.plan plan_read) write answers.ending
+    caused_by setup given = (by_command (Some (Once setup)) given).0
+
+    -- under a schedule that is told
+    ends_on : (setup : Setup) (text bytes : List ℕ) (schedule : Schedule) → command ≡ Some (Once setup) → IsPlan setup.plan (plan_left plan_old) text → schedule_told setup.plan text ≡ Ok schedule → left source_old ≡ Some bytes → Ends setup.turns schedule (boot_of setup bytes) left grew source_new output_old output_new answers.ending
+    ends_on setup text bytes schedule given plan is known = (subst (λ told. EndsOnce setup told left grew (plan_left plan_new) source_old source_new output_old output_new answers.ending) is (once_on setup text given plan)).1 bytes known
+
+    -- where the plan is refused
+    refuses_on : (setup : Setup) (text : List ℕ) (line : ℕ) → command ≡ Some (Once setup) → IsPlan setup.plan (plan_left plan_old) text → schedule_told setup.plan text ≡ Err line → RefusesPlanAs line source_old source_new output_old output_new answers.ending
+    refuses_on setup text line given plan is = subst (λ told. EndsOnce setup told left grew (plan_left plan_new) source_old source_new output_old output_new answers.ending) is (once_on setup text given plan)
+
+    pub halted-told : status ≡ 0 → (setup : Setup) (text bytes : List ℕ) → command ≡ Some (Once setup) → IsPlan setup.plan (plan_left plan_old) text → left source_old ≡ Some bytes → HaltsOn setup text bytes left grew noted (plan_left plan_new) source_new output_old output_new notes_old notes_new
+    halted-told e setup text bytes given plan known =
         let is = status-is noted rose answers.ending notes_old notes_new status 0 answers.told e (omega arith) (omega arith) in
-        halted_by turns bytes (boot_of bytes) answers.ending refl (ends_on turns bytes given told) is.0 is.1
+        halted_once setup text bytes (schedule_told setup.plan text) answers.ending refl (once_on setup text given plan) known is.0 is.1
 
-    pub part-told : ((a b : K) (x : List ℕ) → grew a x b → GrewByPrefix grew a x b) → (turns : ℕ) (bytes : List ℕ) (unix : Unix) → command ≡ Some (Once turns) → left source_old ≡ Some bytes → boot_of bytes ≡ Ok unix
-        → GrewByPrefix grew output_old (run_of turns unix).put output_new
-    part-told whole turns bytes unix given told boots =
-        part_by whole turns unix answers.ending (subst (λ booted. Ends turns booted left grew source_new output_old output_new answers.ending) boots (ends_on turns bytes given told))
+    pub part-told : ((a b : K) (x : List ℕ) → grew a x b → GrewByPrefix grew a x b) → (setup : Setup) (text bytes : List ℕ) (schedule : Schedule) (booted : Booted) → command ≡ Some (Once setup) → IsPlan setup.plan (plan_left plan_old) text → schedule_told setup.plan text ≡ Ok schedule → left source_old ≡ Some bytes → boot_of setup bytes ≡ Ok booted
+        → GrewByPrefix grew output_old (run_of setup.turns schedule booted).put output_new
+    part-told whole setup text bytes schedule booted given plan is known boots =
+        part_by whole setup.turns schedule booted answers.ending (subst (λ found. Ends setup.turns schedule found left grew source_new output_old output_new answers.ending) boots (ends_on setup text bytes schedule given plan is known))
 
-    caused_by : (turns : ℕ) → command ≡ Some (Once turns) → IsCaused read write answers.ending
-    caused_by turns given = (by_command (Some (Once turns)) given).0
+    -- nothing else was looked at where the plan is refused
+    untouched_by : (line : ℕ) (ending : Ending) → RefusesPlanAs line source_old source_new output_old output_new ending → (source_new ≡ source_old) × (output_new ≡ output_old)
+    untouched_by refused (BadPlan line) refuses = (refuses.1, refuses.2)
+    untouched_by refused ReadFault refuses = refuses
+    untouched_by refused NoMemory refuses = refuses
+    untouched_by refused (Halted word) never = absurd never
+    untouched_by refused (TurnsSpent made) never = absurd never
+    untouched_by refused (Idle made) never = absurd never
+    untouched_by refused Assembled never = absurd never
+    untouched_by refused Usage never = absurd never
+    untouched_by refused (Refused refusal) never = absurd never
+    untouched_by refused (NotAssembled kind line) never = absurd never
+    untouched_by refused WriteFault never = absurd never
+
+    pub plan-first : (setup : Setup) (text : List ℕ) (line : ℕ) → command ≡ Some (Once setup) → IsPlan setup.plan (plan_left plan_old) text → schedule_told setup.plan text ≡ Err line → (source_new ≡ source_old) × (output_new ≡ output_old)
+    plan-first setup text line given plan is = untouched_by line answers.ending (refuses_on setup text line given plan is)
+
+    -- nothing was put where the input is refused
+    stays_by : (refusal : Refusal) (ending : Ending) → RefusesAs refusal output_old output_new ending → output_new ≡ output_old
+    stays_by refusal (Refused told) refuses = refuses.1
+    stays_by refusal ReadFault refuses = refuses
+    stays_by refusal NoMemory refuses = refuses
+    stays_by why (Halted word) never = absurd never
+    stays_by why (TurnsSpent made) never = absurd never
+    stays_by why (Idle made) never = absurd never
+    stays_by why Assembled never = absurd never
+    stays_by why Usage never = absurd never
+    stays_by why (NotAssembled kind line) never = absurd never
+    stays_by why (BadPlan line) never = absurd never
+    stays_by why WriteFault never = absurd never
+
+    stays_once : (setup : Setup) (bytes : List ℕ) (refusal : Refusal) (told : Result Schedule ℕ) → EndsOnce setup told left grew (plan_left plan_new) source_old source_new output_old output_new answers.ending → left source_old ≡ Some bytes → boot_of setup bytes ≡ Err refusal → output_new ≡ output_old
+    stays_once setup bytes refusal (Ok schedule) ends known boots = stays_by refusal answers.ending (subst (λ found. Ends setup.turns schedule found left grew source_new output_old output_new answers.ending) boots (ends.1 bytes known))
+    stays_once setup bytes refusal (Err line) ends known boots = (untouched_by line answers.ending ends).1
+
+    pub refused-output-told : (setup : Setup) (text bytes : List ℕ) (refusal : Refusal) → command ≡ Some (Once setup) → IsPlan setup.plan (plan_left plan_old) text → left source_old ≡ Some bytes → boot_of setup bytes ≡ Err refusal → output_new ≡ output_old
+    refused-output-told setup text bytes refusal given plan known boots = stays_once setup bytes refusal (schedule_told setup.plan text) (once_on setup text given plan) known boots
 
     -- without a fault and with memory, the status is the ending's
     status_by : ¬ rose → status ≢ 6 → status ≡ ending_status answers.ending
@@ -309,43 +465,79 @@ module _ {S K E : Type 0} (left : S → Option (List ℕ)) (grew : K → List �
         by (inr (inl told)) = absurd (quiet told.1)
         by (inr (inr told)) = absurd (enough told.0)
 
-    complete_by : (turns : ℕ) (unix : Unix) (ending : Ending) → RunsOn turns unix left grew source_new output_old output_new ending → IsCaused read write ending → ¬ read → ¬ write → ending_status ending ≢ 6
-        → ending_status ending ≡ stop_status (run_of turns unix).stop
-    complete_by turns unix (Halted word) runs cause no_read no_write enough = sym (ap stop_status runs.stop_is)
-    complete_by turns unix (TurnsSpent made) runs cause no_read no_write enough = sym (ap stop_status runs.0.stop_is)
-    complete_by turns unix (Idle made) runs cause no_read no_write enough = sym (ap stop_status runs.0.stop_is)
-    complete_by turns unix ReadFault runs cause no_read no_write enough = absurd (no_read cause)
-    complete_by turns unix WriteFault runs cause no_read no_write enough = absurd (no_write cause)
-    complete_by turns unix NoMemory runs cause no_read no_write enough = absurd (enough refl)
-    complete_by turns unix Assembled runs cause no_read no_write enough = absurd runs
-    complete_by turns unix Usage runs cause no_read no_write enough = absurd runs
-    complete_by turns unix (Refused refusal) runs cause no_read no_write enough = absurd runs
-    complete_by turns unix (NotAssembled kind line) runs cause no_read no_write enough = absurd runs
+    spent-status : (stop : machine.Stop) → IsSpent stop → 9 ≡ stop_status stop
+    spent-status machine.PlanDone spent = refl
+    spent-status machine.Going spent = refl
+    spent-status (machine.Halted word) spent = absurd spent
+    spent-status machine.Idle spent = absurd spent
 
-    pub complete-told : (turns : ℕ) (bytes : List ℕ) (unix : Unix) → command ≡ Some (Once turns) → left source_old ≡ Some bytes → boot_of bytes ≡ Ok unix → ¬ read → ¬ write → ¬ rose → status ≢ 6
-        → status ≡ stop_status (run_of turns unix).stop
-    complete-told turns bytes unix given told boots no_read no_write quiet enough =
-        let is : status ≡ ending_status answers.ending = status_by quiet enough in
-        is ∙ complete_by turns unix answers.ending (subst (λ booted. Ends turns booted left grew source_new output_old output_new answers.ending) boots (ends_on turns bytes given told))
-        (caused_by turns given) no_read no_write (λ six. enough (is ∙ six))
+    complete_by : (turns : ℕ) (schedule : Schedule) (booted : Booted) (cause : Type 0) (ending : Ending) → RunsOn (run_of turns schedule booted) booted.input left grew source_new output_old output_new ending → IsCaused cause write ending → ¬ cause → ¬ write → ending_status ending ≢ 6
+        → ending_status ending ≡ stop_status (run_of turns schedule booted).stop
+    complete_by turns schedule booted cause (Halted word) runs caused no_read no_write enough = sym (ap stop_status runs.1)
+    complete_by turns schedule booted cause (TurnsSpent made) runs caused no_read no_write enough = spent-status (run_of turns schedule booted).stop runs.1
+    complete_by turns schedule booted cause (Idle made) runs caused no_read no_write enough = sym (ap stop_status runs.1)
+    complete_by turns schedule booted cause ReadFault runs caused no_read no_write enough = absurd (no_read caused)
+    complete_by turns schedule booted cause WriteFault runs caused no_read no_write enough = absurd (no_write caused)
+    complete_by turns schedule booted cause NoMemory runs caused no_read no_write enough = absurd (enough refl)
+    complete_by turns schedule booted cause Assembled runs caused no_read no_write enough = absurd runs
+    complete_by turns schedule booted cause Usage runs caused no_read no_write enough = absurd runs
+    complete_by turns schedule booted cause (Refused refusal) runs caused no_read no_write enough = absurd runs
+    complete_by turns schedule booted cause (NotAssembled kind line) runs caused no_read no_write enough = absurd runs
+    complete_by turns schedule booted cause (BadPlan line) runs caused no_read no_write enough = absurd runs
 
-    refuses_by : (refusal : Refusal) (ending : Ending) → RefusesAs refusal output_old output_new ending → IsCaused read write ending → ¬ read → ending_status ending ≢ 6 → ending_status ending ≡ 2
-    refuses_by refusal (Refused told) refuses cause no_read enough = refl
-    refuses_by refusal ReadFault refuses cause no_read enough = absurd (no_read cause)
-    refuses_by refusal NoMemory refuses cause no_read enough = absurd (enough refl)
-    refuses_by refusal WriteFault refuses cause no_read enough = absurd refuses
-    refuses_by refusal (Halted word) refuses cause no_read enough = absurd refuses
-    refuses_by refusal (TurnsSpent made) refuses cause no_read enough = absurd refuses
-    refuses_by refusal (Idle made) refuses cause no_read enough = absurd refuses
-    refuses_by refusal Assembled refuses cause no_read enough = absurd refuses
-    refuses_by refusal Usage refuses cause no_read enough = absurd refuses
-    refuses_by refusal (NotAssembled kind line) refuses cause no_read enough = absurd refuses
+    -- neither the input nor the plan failed
+    neither : (setup : Setup) → ¬ read → ¬ FromPlan setup.plan plan_read → ¬ (read ⊎ FromPlan setup.plan plan_read)
+    neither setup no_read no_plan (inl input) = no_read input
+    neither setup no_read no_plan (inr plan) = no_plan plan
 
-    pub refuses-told : (turns : ℕ) (bytes : List ℕ) (refusal : Refusal) → command ≡ Some (Once turns) → left source_old ≡ Some bytes → boot_of bytes ≡ Err refusal → ¬ read → ¬ rose → status ≢ 6 → status ≡ 2
-    refuses-told turns bytes refusal given told boots no_read quiet enough =
-        let is : status ≡ ending_status answers.ending = status_by quiet enough in
-        is ∙ refuses_by refusal answers.ending (subst (λ booted. Ends turns booted left grew source_new output_old output_new answers.ending) boots (ends_on turns bytes given told))
-        (caused_by turns given) no_read (λ six. enough (is ∙ six))
+    pub complete-told : (setup : Setup) (text bytes : List ℕ) (schedule : Schedule) (booted : Booted) → command ≡ Some (Once setup) → IsPlan setup.plan (plan_left plan_old) text → schedule_told setup.plan text ≡ Ok schedule → left source_old ≡ Some bytes → boot_of setup bytes ≡ Ok booted
+        → ¬ read → ¬ FromPlan setup.plan plan_read → ¬ write → ¬ rose → status ≢ 6 → status ≡ stop_status (run_of setup.turns schedule booted).stop
+    complete-told setup text bytes schedule booted given plan is known boots no_read no_plan no_write quiet enough =
+        let same : status ≡ ending_status answers.ending = status_by quiet enough in
+        same ∙ complete_by setup.turns schedule booted (read ⊎ FromPlan setup.plan plan_read) answers.ending (subst (λ found. Ends setup.turns schedule found left grew source_new output_old output_new answers.ending) boots (ends_on setup text bytes schedule given plan is known))
+        (caused_by setup given) (neither setup no_read no_plan) no_write (λ six. enough (same ∙ six))
+
+    refuses_by : (refusal : Refusal) (cause : Type 0) (ending : Ending) → RefusesAs refusal output_old output_new ending → IsCaused cause write ending → ¬ cause → ending_status ending ≢ 6 → ending_status ending ≡ 2
+    refuses_by refusal cause (Refused told) refuses caused no_read enough = refl
+    refuses_by refusal cause ReadFault refuses caused no_read enough = absurd (no_read caused)
+    refuses_by refusal cause NoMemory refuses caused no_read enough = absurd (enough refl)
+    refuses_by why cause (Halted word) refuses caused no_read enough = absurd refuses
+    refuses_by why cause (TurnsSpent made) refuses caused no_read enough = absurd refuses
+    refuses_by why cause (Idle made) refuses caused no_read enough = absurd refuses
+    refuses_by why cause Assembled refuses caused no_read enough = absurd refuses
+    refuses_by why cause Usage refuses caused no_read enough = absurd refuses
+    refuses_by why cause (NotAssembled kind line) refuses caused no_read enough = absurd refuses
+    refuses_by why cause (BadPlan line) refuses caused no_read enough = absurd refuses
+    refuses_by why cause WriteFault refuses caused no_read enough = absurd refuses
+
+    plan_by : (line : ℕ) (cause : Type 0) (ending : Ending) → RefusesPlanAs line source_old source_new output_old output_new ending → IsCaused cause write ending → ¬ cause → ending_status ending ≢ 6 → ending_status ending ≡ 2
+    plan_by refused cause (BadPlan line) refuses caused no_read enough = refl
+    plan_by refused cause ReadFault refuses caused no_read enough = absurd (no_read caused)
+    plan_by refused cause NoMemory refuses caused no_read enough = absurd (enough refl)
+    plan_by refused cause (Halted word) refuses caused no_read enough = absurd refuses
+    plan_by refused cause (TurnsSpent made) refuses caused no_read enough = absurd refuses
+    plan_by refused cause (Idle made) refuses caused no_read enough = absurd refuses
+    plan_by refused cause Assembled refuses caused no_read enough = absurd refuses
+    plan_by refused cause Usage refuses caused no_read enough = absurd refuses
+    plan_by refused cause (Refused refusal) refuses caused no_read enough = absurd refuses
+    plan_by refused cause (NotAssembled kind line) refuses caused no_read enough = absurd refuses
+    plan_by refused cause WriteFault refuses caused no_read enough = absurd refuses
+
+    once_by : (setup : Setup) (bytes : List ℕ) (refusal : Refusal) (told : Result Schedule ℕ) → EndsOnce setup told left grew (plan_left plan_new) source_old source_new output_old output_new answers.ending → left source_old ≡ Some bytes → boot_of setup bytes ≡ Err refusal → IsCaused (read ⊎ FromPlan setup.plan plan_read) write answers.ending
+        → ¬ (read ⊎ FromPlan setup.plan plan_read) → ending_status answers.ending ≢ 6 → ending_status answers.ending ≡ 2
+    once_by setup bytes refusal (Ok schedule) ends known boots caused no_read enough =
+        refuses_by refusal (read ⊎ FromPlan setup.plan plan_read) answers.ending (subst (λ found. Ends setup.turns schedule found left grew source_new output_old output_new answers.ending) boots (ends.1 bytes known)) caused no_read enough
+    once_by setup bytes refusal (Err line) ends known boots caused no_read enough = plan_by line (read ⊎ FromPlan setup.plan plan_read) answers.ending ends caused no_read enough
+
+    pub refuses-told : (setup : Setup) (text bytes : List ℕ) (refusal : Refusal) → command ≡ Some (Once setup) → IsPlan setup.plan (plan_left plan_old) text → left source_old ≡ Some bytes → boot_of setup bytes ≡ Err refusal → ¬ read → ¬ FromPlan setup.plan plan_read → ¬ rose → status ≢ 6 → status ≡ 2
+    refuses-told setup text bytes refusal given plan known boots no_read no_plan quiet enough =
+        let same : status ≡ ending_status answers.ending = status_by quiet enough in
+        same ∙ once_by setup bytes refusal (schedule_told setup.plan text) (once_on setup text given plan) known boots (caused_by setup given) (neither setup no_read no_plan) (λ six. enough (same ∙ six))
+
+    pub refuses_plan-told : (setup : Setup) (text : List ℕ) (line : ℕ) → command ≡ Some (Once setup) → IsPlan setup.plan (plan_left plan_old) text → schedule_told setup.plan text ≡ Err line → ¬ read → ¬ FromPlan setup.plan plan_read → ¬ rose → status ≢ 6 → status ≡ 2
+    refuses_plan-told setup text line given plan is no_read no_plan quiet enough =
+        let same : status ≡ ending_status answers.ending = status_by quiet enough in
+        same ∙ plan_by line (read ⊎ FromPlan setup.plan plan_read) answers.ending (refuses_on setup text line given plan is) (caused_by setup given) (neither setup no_read no_plan) (λ six. enough (same ∙ six))
 
     -- the ending of a source that means a program, or is refused
     assembly : (bytes : List ℕ) → command ≡ Some Asm → left source_old ≡ Some bytes → EndsAssembly (asm.assembled bytes) left grew source_new output_old output_new answers.ending
@@ -370,6 +562,7 @@ module _ {S K E : Type 0} (left : S → Option (List ℕ)) (grew : K → List �
     output_where WriteFault keeps (inl told) some other = absurd (other told.0)
     output_where WriteFault keeps (inr (inl told)) some other = absurd (other told.0)
     output_where WriteFault keeps (inr (inr told)) some other = absurd told.1
+    output_where (BadPlan line) keeps told some other = absurd keeps
     output_where (NotAssembled kind line) keeps told some other = keeps
     output_where ReadFault keeps told some other = keeps
     output_where NoMemory keeps told some other = keeps
@@ -385,6 +578,7 @@ module _ {S K E : Type 0} (left : S → Option (List ℕ)) (grew : K → List �
     -- without a fault and with memory, the status is what the source means
     assembles_by : (program : asm.Program) (ending : Ending) → EndsAssembly (Ok program) left grew source_new output_old output_new ending → IsCaused read write ending → ¬ read → ¬ write → ending_status ending ≢ 6 → ending_status ending ≡ 0
     assembles_by program Assembled ends cause no_read no_write enough = refl
+    assembles_by program (BadPlan line) ends cause no_read no_write enough = absurd ends
     assembles_by program (NotAssembled kind line) ends cause no_read no_write enough = cc
     assembles_by program ReadFault ends cause no_read no_write enough = absurd (no_read cause)
     assembles_by program WriteFault ends cause no_read no_write enough = absurd (no_write cause)
@@ -402,6 +596,7 @@ module _ {S K E : Type 0} (left : S → Option (List ℕ)) (grew : K → List �
         (by_command (Some Asm) given).0 no_read no_write (λ six. enough (is ∙ six))
 
     refused_by_meaning : (refusal : asm.Refusal) (ending : Ending) → EndsAssembly (Err refusal) left grew source_new output_old output_new ending → IsCaused read write ending → ¬ read → ending_status ending ≢ 6 → ending_status ending ≡ 2
+    refused_by_meaning refusal (BadPlan line) ends cause no_read enough = absurd ends
     refused_by_meaning refusal (NotAssembled kind line) ends cause no_read enough = refl
     refused_by_meaning refusal Assembled ends cause no_read enough = let no : Err refusal ≡ Ok ends.program = ends.means in cc
     refused_by_meaning refusal WriteFault ends cause no_read enough = let no : Err refusal ≡ Ok ends.program = ends.means in cc
@@ -418,3 +613,21 @@ module _ {S K E : Type 0} (left : S → Option (List ℕ)) (grew : K → List �
         let is : status ≡ ending_status answers.ending = status_by quiet enough in
         is ∙ refused_by_meaning refusal answers.ending (subst (λ meaning. EndsAssembly meaning left grew source_new output_old output_new answers.ending) means (assembly bytes given told))
         (by_command (Some Asm) given).0 no_read (λ six. enough (is ∙ six))
+
+    -- nothing was put where the source is refused
+    source_stays_by : (refusal : asm.Refusal) (ending : Ending) → KeepsOutput output_old output_new ending → EndsAssembly (Err refusal) left grew source_new output_old output_new ending → output_new ≡ output_old
+    source_stays_by refusal Assembled keeps ends = let no : Err refusal ≡ Ok ends.program = ends.means in cc
+    source_stays_by refusal WriteFault keeps ends = let no : Err refusal ≡ Ok ends.program = ends.means in cc
+    source_stays_by refusal (NotAssembled kind line) keeps ends = keeps
+    source_stays_by refusal ReadFault keeps ends = keeps
+    source_stays_by refusal NoMemory keeps ends = keeps
+    source_stays_by refusal (Halted word) keeps ends = absurd keeps
+    source_stays_by refusal (TurnsSpent made) keeps ends = absurd keeps
+    source_stays_by refusal (Idle made) keeps ends = absurd keeps
+    source_stays_by refusal Usage keeps ends = absurd keeps
+    source_stays_by refusal (Refused told) keeps ends = absurd keeps
+    source_stays_by refusal (BadPlan line) keeps ends = absurd keeps
+
+    pub refused_source-output-told : (bytes : List ℕ) (refusal : asm.Refusal) → command ≡ Some Asm → left source_old ≡ Some bytes → asm.assembled bytes ≡ Err refusal → output_new ≡ output_old
+    refused_source-output-told bytes refusal given told means =
+        source_stays_by refusal answers.ending (kept given) (subst (λ meaning. EndsAssembly meaning left grew source_new output_old output_new answers.ending) means (assembly bytes given told))

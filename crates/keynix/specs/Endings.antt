@@ -1,23 +1,27 @@
 -- Endings in the words of the definitions.
-use Rattle.std.specs.Prelude.{◌≡◌, ℕ, ◌<◌, true, false, List, [], length, Option, Some, None, Result, Ok, Err, Vec, if◌then◌else◌}
+use Rattle.std.specs.Prelude.{◌≡◌, ℕ, ◌<◌, ◌++◌, true, false, List, [], length, Option, Some, None, Result, Ok, Err, Vec, if◌then◌else◌}
 use Rattle.std.specs.Global.{Global}
 use Rattle.flat_unix.specs.declared.flat.Flat.{Flat}
 use Rattle.flat_unix.specs.FlatView.{unix_of}
 use Rattle.flat_unix.specs.declared.flat.FlatFault.{FlatFault}
 use Rattle.flat_unix.specs.declared.flat.FlatFault.TheVariants as flat
 use Rattle.kn_io.specs.Sink.{GrewByPrefix}
+use Rattle.plan.specs.Plans.{slots_of, spans_of}
+use Rattle.plan.specs.declared.span.Span.{Span}
 use Rattle.unix_model.specs.Boot as model
 use Rattle.unix_model.specs.Machine as machine
-use Rattle.unix_model.specs.Schedule.{Schedule, Round, unix_run}
+use Rattle.unix_model.specs.Schedule as schedules
 use Rattle.unix_model.specs.State.{Unix}
-use Rattle.unix_model.specs.Words.{default_pages, default_quantum}
 use Rattle.unix_model.specs.Calls.{call_of}
 use Rattle.rv_asm.specs.Files.{IsFile}
 use Rattle.rv_asm.specs.Programs as asm
 use Rattle.keynix.specs.declared.ending.Ending.{Ending}
-use Rattle.keynix.specs.declared.ending.Ending.TheVariants.{Halted, TurnsSpent, Idle, Assembled, Usage, Refused, NotAssembled, ReadFault, WriteFault, NoMemory}
+use Rattle.keynix.specs.declared.ending.Ending.TheVariants.{Halted, TurnsSpent, Idle, Assembled, Usage, Refused, NotAssembled, BadPlan, ReadFault, WriteFault, NoMemory}
 use Rattle.keynix.specs.declared.ending.Refusal.{Refusal}
 use Rattle.keynix.specs.declared.ending.Refusal.TheVariants.{NotBuilt, NoRoom, Elf}
+use Rattle.keynix.specs.declared.schedule.Schedule as own
+use Rattle.keynix.specs.Schedules.{schedule_of}
+use Rattle.keynix.specs.Words.{Plan, Round, Given, Setup}
 
 -- why an input isn't booted, as it is told: for the file or for the program's memory there is no room, or the file is no
 -- program. Where there is room for the file, there is a program
@@ -31,14 +35,55 @@ abbrev pub told_boot : Result Unix model.BootRefusal → Result Unix Refusal
 told_boot (Ok unix) = Ok unix
 told_boot (Err refusal) = Err (told_refusal refusal)
 
--- the machine that an input boots: it has to be an ELF file
-unfoldable pub boot_of : List ℕ → Result Unix Refusal
-boot_of bytes =
-    if model.is_elf bytes then told_boot (model.booted_file default_pages default_quantum bytes) else Err NotBuilt
+-- what an input boots: a machine, and the console input that it finds
+pub record Booted : Type 0 where
+  pub unix : Unix
+  pub input : List ℕ
 
--- the run of a machine in the round, over no console input
-abbrev pub run_of : ℕ → Unix → machine.RunResult Unix Schedule
-run_of turns unix = unix_run call_of turns unix (Round None) []
+-- a file is the whole input, so nothing is left for the console
+abbrev pub with_file : Result Unix Refusal → Result Booted Refusal
+with_file (Ok unix) = Ok (record { unix = unix; input = [] })
+with_file (Err refusal) = Err refusal
+
+-- what an input boots with so many pages and this quantum: it has to be an ELF file
+unfoldable pub boot_of : Setup → List ℕ → Result Booted Refusal
+boot_of setup bytes =
+    if model.is_elf bytes then with_file (told_boot (model.booted_file setup.pages setup.quantum bytes)) else Err NotBuilt
+
+-- the schedule that a plan's spans give
+abbrev pub given_by : Result (List Span) ℕ → Result schedules.Schedule ℕ
+given_by (Ok spans) = Ok (schedules.Given (slots_of spans))
+given_by (Err line) = Err line
+
+-- the schedule of a run, or the line of the plan's text that is refused: where nobody says whose turns they are, the text is
+-- nothing to it
+abbrev pub schedule_told : Plan → (text : List ℕ) → Result schedules.Schedule ℕ
+schedule_told Round text = Ok (schedules.Round None)
+schedule_told Given text = given_by (spans_of text)
+
+-- the plan's text is told, where it is asked for
+abbrev pub IsPlan : Plan → Option (List ℕ) → (text : List ℕ) → Type 0
+IsPlan Round left text = Unit {0}
+IsPlan Given left text = left ≡ Some text
+
+-- the plan was read to its end, where it was asked for
+abbrev pub PlanEnds : Plan → Option (List ℕ) → Type 0
+PlanEnds Round left = Unit {0}
+PlanEnds Given left = left ≡ Some []
+
+-- the plan is as before, where it wasn't asked for
+abbrev pub KeepsPlan : {P : Type 0} → Plan → P → P → Type 0
+KeepsPlan Round old new = new ≡ old
+KeepsPlan Given old new = Unit {0}
+
+-- a fault of the plan, where it was asked for
+abbrev pub FromPlan : Plan → Type 0 → Type 0
+FromPlan Round fault = ⊥
+FromPlan Given fault = fault
+
+-- the run of what was booted
+abbrev pub run_of : (turns : ℕ) → schedules.Schedule → Booted → machine.RunResult Unix schedules.Schedule
+run_of turns schedule booted = schedules.unix_run call_of turns booted.unix schedule booted.input
 
 -- the ending of a turn that failed
 abbrev pub fault_ending : FlatFault → Ending
@@ -47,6 +92,13 @@ fault_ending flat.WriteFault = WriteFault
 fault_ending flat.NoMemory = NoMemory
 fault_ending flat.NoRoom = Refused NoRoom
 fault_ending (flat.Elf fault) = Refused (Elf fault)
+
+-- the ending of a run that ended so, after so many turns
+abbrev pub run_ending : machine.Stop → ℕ → Ending
+run_ending (machine.Halted word) turns = Halted word
+run_ending machine.Idle turns = Idle turns
+run_ending machine.PlanDone turns = TurnsSpent turns
+run_ending machine.Going turns = TurnsSpent turns
 
 -- an ending by a fault comes only with its cause
 abbrev pub IsCaused : Type 0 → Type 0 → Ending → Type 0
@@ -59,31 +111,40 @@ IsCaused read write Assembled = Unit {0}
 IsCaused read write Usage = ⊥
 IsCaused read write (Refused refusal) = Unit {0}
 IsCaused read write (NotAssembled kind line) = Unit {0}
+IsCaused read write (BadPlan line) = Unit {0}
 IsCaused read write NoMemory = Unit {0}
 
--- a run was made whole: why it ended, and how often the machine turned; the output got the bytes that it puts, and
--- nothing is left of the input
-pub record RunsWhole {S K : Type 0} (turns : ℕ) (unix : Unix) (left : S → Option (List ℕ)) (grew : K → List ℕ → K → Type 0) (source : S) (old new : K) (stop : machine.Stop) : Type 0 where
-  pub stop_is : (run_of turns unix).stop ≡ stop
-  pub output_grew : grew old (run_of turns unix).put new
-  pub input_ended : left source ≡ Some []
+-- A run was made whole: the output got the bytes that it puts, the input has left what it leaves, and the console input is
+-- what it takes and that.
+pub record RunsWhole {S K : Type 0} (whole : machine.RunResult Unix schedules.Schedule) (input : List ℕ) (left : S → Option (List ℕ)) (grew : K → List ℕ → K → Type 0) (source : S) (old new : K) : Type 0 where
+  pub output_grew : grew old whole.put new
+  pub input_left : left source ≡ Some whole.left
+  pub input_split : input ≡ whole.taken ++ whole.left
+
+-- a run ended since it had made all turns that it may make, or all that the plan gives
+abbrev pub IsSpent : machine.Stop → Type 0
+IsSpent (machine.Halted word) = ⊥
+IsSpent machine.Idle = ⊥
+IsSpent machine.PlanDone = Unit {0}
+IsSpent machine.Going = Unit {0}
 
 -- a run that was cut short: the output got a front of the bytes that it puts
-abbrev pub PutsPart : {K : Type 0} → ℕ → Unix → (K → List ℕ → K → Type 0) → K → K → Type 0
-PutsPart turns unix grew old new = GrewByPrefix grew old (run_of turns unix).put new
+abbrev pub PutsPart : {K : Type 0} → machine.RunResult Unix schedules.Schedule → (K → List ℕ → K → Type 0) → K → K → Type 0
+PutsPart whole grew old new = GrewByPrefix grew old whole.put new
 
--- the ending of a run from a state
-abbrev pub RunsOn : {S K : Type 0} → ℕ → Unix → (S → Option (List ℕ)) → (K → List ℕ → K → Type 0) → S → K → K → Ending → Type 0
-RunsOn turns unix left grew source old new (Halted word) = RunsWhole turns unix left grew source old new (machine.Halted word)
-RunsOn turns unix left grew source old new (TurnsSpent made) = RunsWhole turns unix left grew source old new machine.Going × ((run_of turns unix).turns ≡ made)
-RunsOn turns unix left grew source old new (Idle made) = RunsWhole turns unix left grew source old new machine.Idle × ((run_of turns unix).turns ≡ made)
-RunsOn turns unix left grew source old new ReadFault = PutsPart turns unix grew old new
-RunsOn turns unix left grew source old new WriteFault = PutsPart turns unix grew old new
-RunsOn turns unix left grew source old new NoMemory = PutsPart turns unix grew old new
-RunsOn turns unix left grew source old new Assembled = ⊥
-RunsOn turns unix left grew source old new Usage = ⊥
-RunsOn turns unix left grew source old new (Refused refusal) = ⊥
-RunsOn turns unix left grew source old new (NotAssembled kind line) = ⊥
+-- the ending of a run
+abbrev pub RunsOn : {S K : Type 0} → machine.RunResult Unix schedules.Schedule → (input : List ℕ) → (S → Option (List ℕ)) → (K → List ℕ → K → Type 0) → S → K → K → Ending → Type 0
+RunsOn whole input left grew source old new (Halted word) = RunsWhole whole input left grew source old new × (whole.stop ≡ machine.Halted word)
+RunsOn whole input left grew source old new (TurnsSpent made) = RunsWhole whole input left grew source old new × IsSpent whole.stop × (whole.turns ≡ made)
+RunsOn whole input left grew source old new (Idle made) = RunsWhole whole input left grew source old new × (whole.stop ≡ machine.Idle) × (whole.turns ≡ made)
+RunsOn whole input left grew source old new ReadFault = PutsPart whole grew old new
+RunsOn whole input left grew source old new WriteFault = PutsPart whole grew old new
+RunsOn whole input left grew source old new NoMemory = PutsPart whole grew old new
+RunsOn whole input left grew source old new Assembled = ⊥
+RunsOn whole input left grew source old new Usage = ⊥
+RunsOn whole input left grew source old new (Refused refusal) = ⊥
+RunsOn whole input left grew source old new (NotAssembled kind line) = ⊥
+RunsOn whole input left grew source old new (BadPlan line) = ⊥
 
 -- the input is refused so, and nothing was put
 abbrev pub RefusesAs : {K : Type 0} → Refusal → K → K → Ending → Type 0
@@ -97,11 +158,61 @@ RefusesAs refusal old new (Idle turns) = ⊥
 RefusesAs refusal old new Assembled = ⊥
 RefusesAs refusal old new Usage = ⊥
 RefusesAs refusal old new (NotAssembled kind line) = ⊥
+RefusesAs refusal old new (BadPlan line) = ⊥
 
--- the ending of `once` by the boot of its input
-abbrev pub Ends : {S K : Type 0} → ℕ → Result Unix Refusal → (S → Option (List ℕ)) → (K → List ℕ → K → Type 0) → S → K → K → Ending → Type 0
-Ends turns (Ok unix) left grew source old new ending = RunsOn turns unix left grew source old new ending
-Ends turns (Err refusal) left grew source old new ending = RefusesAs refusal old new ending
+-- the ending of `once` under a schedule by the boot of its input
+abbrev pub Ends : {S K : Type 0} → ℕ → schedules.Schedule → Result Booted Refusal → (S → Option (List ℕ)) → (K → List ℕ → K → Type 0) → S → K → K → Ending → Type 0
+Ends turns schedule (Ok booted) left grew source old new ending = RunsOn (run_of turns schedule booted) booted.input left grew source old new ending
+Ends turns schedule (Err refusal) left grew source old new ending = RefusesAs refusal old new ending
+
+-- the plan is refused at a line: the input is as before, and nothing was put
+abbrev pub RefusesPlanAs : {S K : Type 0} → ℕ → (source_old source_new : S) (old new : K) → Ending → Type 0
+RefusesPlanAs line source_old source_new old new (BadPlan told) = (line ≡ told) × (source_new ≡ source_old) × (new ≡ old)
+RefusesPlanAs line source_old source_new old new ReadFault = (source_new ≡ source_old) × (new ≡ old)
+RefusesPlanAs line source_old source_new old new NoMemory = (source_new ≡ source_old) × (new ≡ old)
+RefusesPlanAs line source_old source_new old new WriteFault = ⊥
+RefusesPlanAs line source_old source_new old new (Halted word) = ⊥
+RefusesPlanAs line source_old source_new old new (TurnsSpent turns) = ⊥
+RefusesPlanAs line source_old source_new old new (Idle turns) = ⊥
+RefusesPlanAs line source_old source_new old new Assembled = ⊥
+RefusesPlanAs line source_old source_new old new Usage = ⊥
+RefusesPlanAs line source_old source_new old new (Refused refusal) = ⊥
+RefusesPlanAs line source_old source_new old new (NotAssembled kind line_told) = ⊥
+
+-- an ending that says that the plan was read to its end, where it was asked for
+abbrev pub EndsPlan : Plan → Option (List ℕ) → Ending → Type 0
+EndsPlan plan left (Halted word) = PlanEnds plan left
+EndsPlan plan left (TurnsSpent turns) = PlanEnds plan left
+EndsPlan plan left (Idle turns) = PlanEnds plan left
+EndsPlan plan left (Refused refusal) = PlanEnds plan left
+EndsPlan plan left (BadPlan line) = Unit {0}
+EndsPlan plan left ReadFault = Unit {0}
+EndsPlan plan left WriteFault = Unit {0}
+EndsPlan plan left NoMemory = Unit {0}
+EndsPlan plan left Assembled = Unit {0}
+EndsPlan plan left Usage = Unit {0}
+EndsPlan plan left (NotAssembled kind line) = Unit {0}
+
+-- the ending of `once` by the schedule that is told
+abbrev pub EndsOnce : {S K : Type 0} → Setup → Result schedules.Schedule ℕ → (S → Option (List ℕ)) → (K → List ℕ → K → Type 0) → Option (List ℕ) → (source_old source_new : S) (old new : K) → Ending → Type 0
+EndsOnce setup (Err line) left grew plan_left source_old source_new old new ending = RefusesPlanAs line source_old source_new old new ending
+EndsOnce setup (Ok schedule) left grew plan_left source_old source_new old new ending =
+    EndsPlan setup.plan plan_left ending × ((bytes : List ℕ) → left source_old ≡ Some bytes → Ends setup.turns schedule (boot_of setup bytes) left grew source_new old new ending)
+
+-- the schedule that was read, or why none was
+abbrev pub ReadsPlan : Plan → Result schedules.Schedule ℕ → Option (List ℕ) → Result own.Schedule Ending → Type 0
+ReadsPlan plan told left (Ok schedule) = (told ≡ Ok (schedule_of schedule)) × PlanEnds plan left
+ReadsPlan plan told left (Err (BadPlan line)) = told ≡ Err line
+ReadsPlan plan told left (Err ReadFault) = Unit {0}
+ReadsPlan plan told left (Err NoMemory) = Unit {0}
+ReadsPlan plan told left (Err WriteFault) = ⊥
+ReadsPlan plan told left (Err (Halted word)) = ⊥
+ReadsPlan plan told left (Err (TurnsSpent turns)) = ⊥
+ReadsPlan plan told left (Err (Idle turns)) = ⊥
+ReadsPlan plan told left (Err Assembled) = ⊥
+ReadsPlan plan told left (Err Usage) = ⊥
+ReadsPlan plan told left (Err (Refused refusal)) = ⊥
+ReadsPlan plan told left (Err (NotAssembled kind line)) = ⊥
 
 -- the file that was read, or why none was
 abbrev pub Reads : List ℕ → Option (List ℕ) → Result (Vec ℕ Global) Ending → Type 0
@@ -118,10 +229,11 @@ Reads bytes left (Err (Idle turns)) = ⊥
 Reads bytes left (Err Assembled) = ⊥
 Reads bytes left (Err Usage) = ⊥
 Reads bytes left (Err (NotAssembled kind line)) = ⊥
+Reads bytes left (Err (BadPlan line)) = ⊥
 
 -- the machine that was booted, or why none was
-abbrev pub Boots : Result Unix Refusal → Result Flat Ending → Type 0
-Boots booted (Ok flat) = booted ≡ Ok (unix_of flat)
+abbrev pub Boots : Result Booted Refusal → Result Flat Ending → Type 0
+Boots booted (Ok flat) = booted ≡ Ok (record { unix = unix_of flat; input = [] })
 Boots booted (Err (Refused refusal)) = booted ≡ Err refusal
 Boots booted (Err NoMemory) = Unit {0}
 Boots booted (Err ReadFault) = ⊥
@@ -132,6 +244,7 @@ Boots booted (Err (Idle turns)) = ⊥
 Boots booted (Err Assembled) = ⊥
 Boots booted (Err Usage) = ⊥
 Boots booted (Err (NotAssembled kind line)) = ⊥
+Boots booted (Err (BadPlan line)) = ⊥
 
 -- why a source wasn't read
 abbrev pub IsUnread : Type 0 → Ending → Type 0
@@ -145,6 +258,7 @@ IsUnread read Assembled = ⊥
 IsUnread read Usage = ⊥
 IsUnread read (Refused refusal) = ⊥
 IsUnread read (NotAssembled kind line) = ⊥
+IsUnread read (BadPlan line) = ⊥
 
 -- the file of a source was written: the source means a program, the output got exactly the bytes of its file, and
 -- nothing is left of the input
@@ -168,6 +282,7 @@ pub record WritesPart {K : Type 0} (meaning : Result asm.Program asm.Refusal) (g
 abbrev pub EndsAssembly : {S K : Type 0} → Result asm.Program asm.Refusal → (S → Option (List ℕ)) → (K → List ℕ → K → Type 0) → S → K → K → Ending → Type 0
 EndsAssembly meaning left grew source old new Assembled = WritesFile meaning left grew source old new
 EndsAssembly meaning left grew source old new (NotAssembled kind line) = meaning ≡ Err (record { kind = kind; line = line })
+EndsAssembly meaning left grew source old new (BadPlan line) = ⊥
 EndsAssembly meaning left grew source old new WriteFault = WritesPart meaning grew old new
 EndsAssembly meaning left grew source old new ReadFault = Unit {0}
 EndsAssembly meaning left grew source old new NoMemory = Unit {0}
@@ -182,6 +297,7 @@ abbrev pub KeepsOutput : {K : Type 0} → K → K → Ending → Type 0
 KeepsOutput old new Assembled = Unit {0}
 KeepsOutput old new WriteFault = Unit {0}
 KeepsOutput old new (NotAssembled kind line) = new ≡ old
+KeepsOutput old new (BadPlan line) = ⊥
 KeepsOutput old new ReadFault = new ≡ old
 KeepsOutput old new NoMemory = new ≡ old
 KeepsOutput old new (Halted word) = ⊥

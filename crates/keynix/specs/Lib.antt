@@ -1,3 +1,4 @@
+pub mod Words
 pub mod WordsView
 pub mod Schedules
 pub mod Rows

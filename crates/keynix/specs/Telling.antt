@@ -10,7 +10,7 @@ use Rattle.rv_asm.specs.declared.fault.AsmKind.{AsmKind}
 use Rattle.rv_asm.specs.declared.fault.AsmKind.TheVariants.{Syntax, UnknownLabel, DoubleLabel, OutOfRange, TooLong}
 use Rattle.rv_asm.specs.Programs as asm
 use Rattle.keynix.specs.declared.ending.Ending.{Ending}
-use Rattle.keynix.specs.declared.ending.Ending.TheVariants.{Halted, TurnsSpent, Idle, Assembled, Usage, Refused, NotAssembled, ReadFault, WriteFault, NoMemory}
+use Rattle.keynix.specs.declared.ending.Ending.TheVariants.{Halted, TurnsSpent, Idle, Assembled, Usage, Refused, NotAssembled, BadPlan, ReadFault, WriteFault, NoMemory}
 use Rattle.keynix.specs.declared.ending.Refusal.{Refusal}
 use Rattle.keynix.specs.declared.ending.Refusal.TheVariants as refusal
 
@@ -46,6 +46,10 @@ source_kind TooLong = codes "TooLong"
 unfoldable pub source_note : asm.Refusal → List ℕ
 source_note refusal = codes "bad input " ++ source_kind refusal.kind ++ codes " " ++ decimal refusal.line ++ codes "\n"
 
+-- the note of a refused plan, with the line that is refused
+unfoldable pub plan_note : ℕ → List ℕ
+plan_note line = codes "bad input BadPlan " ++ decimal line ++ codes "\n"
+
 -- the note of a machine that is idle after so many turns
 unfoldable pub idle_note : ℕ → List ℕ
 idle_note turns = stop_note machine.Idle turns
@@ -71,6 +75,7 @@ ending_note Assembled = None
 ending_note Usage = Some usage_note
 ending_note (Refused refusal) = Some (refusal_note refusal)
 ending_note (NotAssembled kind line) = Some (source_note (record { kind = kind; line = line }))
+ending_note (BadPlan line) = Some (plan_note line)
 ending_note ReadFault = Some read_fault_note
 ending_note WriteFault = Some write_fault_note
 ending_note NoMemory = Some no_memory_note
@@ -81,6 +86,7 @@ ending_status Assembled = 0
 ending_status Usage = 1
 ending_status (Refused refusal) = 2
 ending_status (NotAssembled kind line) = 2
+ending_status (BadPlan line) = 2
 ending_status ReadFault = 3
 ending_status WriteFault = 4
 ending_status NoMemory = 6
@@ -96,6 +102,7 @@ TakesMemory Assembled = ⊥
 TakesMemory Usage = ⊥
 TakesMemory (Refused refusal) = ⊥
 TakesMemory (NotAssembled kind line) = Unit {0}
+TakesMemory (BadPlan line) = Unit {0}
 TakesMemory ReadFault = ⊥
 TakesMemory WriteFault = ⊥
 TakesMemory NoMemory = ⊥

@@ -19,7 +19,7 @@ pub enum Refusal {
 pub enum Ending {
     /// The machine halted, with the wait word of process 1.
     Halted(u32),
-    /// All turns were made, so many.
+    /// All turns that may be made were made, or all that the plan gives: so many.
     TurnsSpent(u64),
     /// After so many turns the machine is idle: no turn would change anything any more.
     Idle(u64),
@@ -31,6 +31,8 @@ pub enum Ending {
     Refused(Refusal),
     /// The source was refused at a line, of which the first is 1.
     NotAssembled { kind: AsmKind, line: u32 },
+    /// The plan was refused at a line, of which the first is 1.
+    BadPlan { line: u32 },
     /// A call of the input failed.
     ReadFault,
     /// A call of the output failed.

@@ -4,7 +4,7 @@ ghost use Rattle.std.specs.Prelude.{◌≡◌, ◌≤◌, Some, IfOk, string_byt
 ghost use Rattle.kn_io.specs.Faults.{Rose};
 ghost use Rattle.kn_io.specs.Sink.{GrewByPrefix};
 ghost use Rattle.unix_model.specs.Notes.{halted_note, spent_note};
-ghost use Rattle.keynix.specs.Telling.{Tells, TakesMemory, ending_note, ending_status, idle_note, refusal_note, source_kind, source_note};
+ghost use Rattle.keynix.specs.Telling.{Tells, TakesMemory, ending_note, ending_status, idle_note, plan_note, refusal_note, source_kind, source_note};
 
 use crate::ending::{Ending, Refusal};
 use elf_read::ElfFault;
@@ -24,7 +24,7 @@ fn status_of(ending: Ending) -> u8
         Ending::Halted(_) => 0,
         Ending::Assembled => 0,
         Ending::Usage => 1,
-        Ending::Refused(_) | Ending::NotAssembled { .. } => 2,
+        Ending::Refused(_) | Ending::NotAssembled { .. } | Ending::BadPlan { .. } => 2,
         Ending::ReadFault => 3,
         Ending::WriteFault => 4,
         Ending::NoMemory => 6,
@@ -102,6 +102,14 @@ fn not_assembled(alloc: Global, kind: AsmKind, line: u32) -> Result<String, Allo
     format!(in alloc; "bad input {name} {line}\n")
 }
 
+/// The note of a plan that is refused at a line.
+#[tactic(auto, unfolding(crate::specs::Telling::plan_note))]
+fn bad_plan(alloc: Global, line: u32) -> Result<String, AllocError>
+    ensures { IfOk result (λ note. string_bytes note ≡ plan_note line) }
+{
+    format!(in alloc; "bad input BadPlan {line}\n")
+}
+
 /// Puts the note of an ending that takes host memory, where there was some, and else a note that says so.
 fn tell_text<E: Sink>(notes: &mut E, ending: Ending, text: Result<String, AllocError>) -> Status
     requires text { IfOk text (λ note. ending_note ending ≡ Some (string_bytes note)) }
@@ -150,6 +158,7 @@ pub fn finish<E: Sink>(alloc: Global, notes: &mut E, ending: Ending) -> Status
         Ending::NotAssembled { kind, line } => {
             tell_text(notes, ending, not_assembled(alloc, kind, line))
         }
+        Ending::BadPlan { line } => tell_text(notes, ending, bad_plan(alloc, line)),
         Ending::ReadFault => tell(notes, ending, b"read fault\n"),
         Ending::WriteFault => tell(notes, ending, b"write fault\n"),
         Ending::NoMemory => tell(notes, ending, b"no memory\n"),

@@ -6,8 +6,10 @@ mod ending;
 mod finish;
 mod given;
 mod once;
+mod options;
 mod run;
 mod schedule;
+mod setup;
 #[cfg(test)]
 mod tests;
 mod top;
@@ -15,7 +17,7 @@ mod words;
 
 use crate::finish::Status;
 use crate::top::keynix;
-use kn_io::{ReadSource, WriteSink};
+use kn_io::{ByteSource, ReadSource, WriteSink};
 use std::alloc::{AllocError, Global};
 use std::env;
 use std::io::{self, BufReader};
@@ -54,6 +56,7 @@ fn main(rt: HostRuntime) -> ExitCode {
     let Status(status) = keynix(
         rt.alloc(),
         &words,
+        &mut ByteSource::new(Vec::new(rt.alloc())),
         &mut ReadSource::new(reader),
         &mut WriteSink::new(rt.stdout()),
         &mut WriteSink::new(rt.stderr()),

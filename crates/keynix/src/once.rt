@@ -1,16 +1,22 @@
 //! The command `once`: an ELF file is booted in memory and runs.
 
-ghost use Rattle.std.specs.Prelude.{◌≡◌, ◌≤◌, ℕ, List, [], Some, true, IfErr, IfOk};
+ghost use Rattle.std.specs.Prelude.{◌≡◌, ◌≤◌, ◌⊎◌, ℕ, List, Some, true, IfErr, IfOk};
 ghost use Rattle.kn_io.specs.Faults.{Rose};
 ghost use Rattle.unix_model.specs.Boot.{is_elf};
-ghost use Rattle.unix_model.specs.Schedule.{Round, ends_idle, mark_at};
 ghost use Rattle.flat_unix.specs.FlatView.{unix_of};
-ghost use Rattle.unix_model.specs.Calls.{call_of};
-ghost use Rattle.keynix.specs.Endings.{Boots, Ends, IsCaused, Reads, RunsOn, boot_of, fault_ending};
+ghost use Rattle.keynix.specs.Endings.{Boots, Ends, EndsOnce, FromPlan, IsCaused, IsPlan, KeepsPlan, Reads, ReadsPlan, boot_of, fault_ending, run_ending, schedule_told};
+ghost use Rattle.keynix.specs.Runs.{stop_of};
+ghost use Rattle.keynix.specs.Schedules.{schedule_of};
+ghost use Rattle.keynix.specs.WordsView.{plan_view, setup_view};
 
 use crate::ending::{Ending, Refusal};
+use crate::given::Given;
+use crate::run::{Ran, Stop, run};
+use crate::schedule::Schedule;
+use crate::setup::{Plan, Setup};
 use flat_unix::{Flat, FlatFault};
 use kn_io::{ReadError, Sink, Source, read_up_to};
+use plan::{PlanFault, read_plan};
 use std::alloc::Global;
 
 /// The most bytes that an ELF file has.
@@ -19,15 +25,56 @@ const MOST_BYTES: usize = 4_194_304;
 /// The first byte of every ELF file.
 const ELF: u8 = 0x7F;
 
-/// The pages and the quantum of a machine where no option says how many.
-const DEFAULT_PAGES: u32 = 2_048;
+/// Reads the plan where it is asked for, then boots the input, an ELF file, in memory, and runs it. Nothing is left of the
+/// input then, so who reads the console finds its end.
+pub fn once<S: Source, P: Source, K: Sink>(
+    alloc: Global,
+    setup: Setup,
+    plan: &mut P,
+    input: &mut S,
+    output: &mut K,
+) -> Ending
+    ensures ends { (text : List ℕ) → IsPlan (plan_view setup.plan) (P.left plan.old) text → EndsOnce (setup_view setup) (schedule_told (plan_view setup.plan) text) S.left K.grew (P.left plan.new) input.old input.new output.old output.new result }
+    ensures plan_kept { KeepsPlan (plan_view setup.plan) plan.old plan.new }
+    ensures caused { IsCaused (Rose (S.faults input.old) (S.faults input.new) ⊎ FromPlan (plan_view setup.plan) (Rose (P.faults plan.old) (P.faults plan.new))) (Rose (K.faults output.old) (K.faults output.new)) result }
+    ensures plan_counted { P.faults plan.old ≤ P.faults plan.new }
+    ensures input_counted { S.faults input.old ≤ S.faults input.new }
+    ensures output_counted { K.faults output.old ≤ K.faults output.new }
+{
+    let schedule = match schedule_for(alloc, setup.plan, plan) {
+        Ok(schedule) => schedule,
+        Err(ending) => return ending,
+    };
+    run_file(alloc, setup, schedule, input, output)
+}
 
-const DEFAULT_QUANTUM: u32 = 100;
+/// The schedule of a run: the round, or what the plan gives.
+fn schedule_for<P: Source>(alloc: Global, plan: Plan, from: &mut P) -> Result<Schedule, Ending>
+    ensures reads { (text : List ℕ) → IsPlan (plan_view plan) (P.left from.old) text → ReadsPlan (plan_view plan) (schedule_told (plan_view plan) text) (P.left from.new) result }
+    ensures kept { KeepsPlan (plan_view plan) from.old from.new }
+    ensures caused { IfErr result (IsCaused (FromPlan (plan_view plan) (Rose (P.faults from.old) (P.faults from.new))) ⊥) }
+    ensures counted { P.faults from.old ≤ P.faults from.new }
+{
+    match plan {
+        Plan::Round => Ok(Schedule::Round(None)),
+        Plan::Given => match read_plan(alloc, from) {
+            Ok(spans) => Ok(Schedule::Given(Given::new(spans))),
+            Err(PlanFault::BadPlan { line }) => Err(Ending::BadPlan { line }),
+            Err(PlanFault::ReadFault) => Err(Ending::ReadFault),
+            Err(PlanFault::NoMemory) => Err(Ending::NoMemory),
+        },
+    }
+}
 
-/// Boots the input, an ELF file, in memory, and runs it for at most so many turns. Nothing is left of the input then, so
-/// who reads the console finds its end.
-pub fn once<S: Source, K: Sink>(alloc: Global, turns: u64, input: &mut S, output: &mut K) -> Ending
-    ensures ends { (bytes : List ℕ) → S.left input.old ≡ Some bytes → Ends turns (boot_of bytes) S.left K.grew input.new output.old output.new result }
+/// Boots the input, and runs it under a schedule.
+fn run_file<S: Source, K: Sink>(
+    alloc: Global,
+    setup: Setup,
+    schedule: Schedule,
+    input: &mut S,
+    output: &mut K,
+) -> Ending
+    ensures ends { (bytes : List ℕ) → S.left input.old ≡ Some bytes → Ends setup.turns (schedule_of schedule) (boot_of (setup_view setup) bytes) S.left K.grew input.new output.old output.new result }
     ensures caused { IsCaused (Rose (S.faults input.old) (S.faults input.new)) (Rose (K.faults output.old) (K.faults output.new)) result }
     ensures input_counted { S.faults input.old ≤ S.faults input.new }
     ensures output_counted { K.faults output.old ≤ K.faults output.new }
@@ -36,11 +83,15 @@ pub fn once<S: Source, K: Sink>(alloc: Global, turns: u64, input: &mut S, output
         Ok(file) => file,
         Err(ending) => return ending,
     };
-    let mut flat = match boot(alloc, &file) {
+    let mut flat = match boot(alloc, setup, &file) {
         Ok(flat) => flat,
         Err(ending) => return ending,
     };
-    run(alloc, &mut flat, turns, input, output)
+    let mut schedule = schedule;
+    match run(alloc, &mut flat, &mut schedule, setup.turns, input, output) {
+        Ok(ran) => ended(ran),
+        Err(failed) => fault(failed),
+    }
 }
 
 /// The bytes of an ELF file, up to the input's end.
@@ -68,12 +119,11 @@ fn read_file<S: Source>(alloc: Global, input: &mut S) -> Result<Vec<u8>, Ending>
 }
 
 /// A machine with the program of a file loaded.
-#[tactic(auto, unfolding(unix_model::specs::Words::default_pages, unix_model::specs::Words::default_quantum))]
-fn boot(alloc: Global, file: &[u8]) -> Result<Flat, Ending>
+fn boot(alloc: Global, setup: Setup, file: &[u8]) -> Result<Flat, Ending>
     requires { is_elf file.now ≡ true }
-    ensures { Boots (boot_of file.now) result }
+    ensures { Boots (boot_of (setup_view setup) file.now) result }
 {
-    let mut flat = match Flat::new(alloc, DEFAULT_PAGES, DEFAULT_QUANTUM) {
+    let mut flat = match Flat::new(alloc, setup.pages, setup.quantum) {
         Ok(flat) => flat,
         Err(_) => return Err(Ending::NoMemory),
     };
@@ -100,61 +150,13 @@ fn fault(fault: FlatFault) -> Ending
     }
 }
 
-/// Makes at most so many turns in the round.
-fn run<S: Source, K: Sink>(
-    alloc: Global,
-    flat: &mut Flat,
-    turns: u64,
-    input: &mut S,
-    output: &mut K,
-) -> Ending
-    ensures runs { S.left input.old ≡ Some [] → RunsOn turns (unix_of flat.old) S.left K.grew input.new output.old output.new result }
-    ensures caused { IsCaused (Rose (S.faults input.old) (S.faults input.new)) (Rose (K.faults output.old) (K.faults output.new)) result }
-    ensures input_counted { S.faults input.old ≤ S.faults input.new }
-    ensures output_counted { K.faults output.old ≤ K.faults output.new }
+/// The ending of a run.
+fn ended(ran: Ran) -> Ending
+    ensures { result ≡ run_ending (stop_of ran.stop) ran.turns }
 {
-    let mut mark = mark_at(flat, None);
-    for made in 0..turns {
-        match flat.halted() {
-            Some(word) => return Ending::Halted(word.0),
-            None => {}
-        }
-        let slot = flat.round_slot();
-        match flat.turn(alloc, slot, input, output) {
-            Ok(_) => {}
-            Err(failed) => return fault(failed),
-        }
-        if ends_idle(flat, mark) {
-            return match flat.halted() {
-                Some(word) => Ending::Halted(word.0),
-                None => Ending::Idle(made + 1),
-            };
-        }
-        mark = mark_at(flat, mark);
-    }
-    match flat.halted() {
-        Some(word) => Ending::Halted(word.0),
-        None => Ending::TurnsSpent(turns),
-    }
-}
-
-/// Where a round begins, whether the machine is idle, and else the mark of the round so far.
-fn mark_at(flat: &Flat, mark: Option<bool>) -> Option<bool>
-    ensures { result ≡ mark_at call_of (unix_of flat.now) mark }
-{
-    if flat.position() == 0 {
-        Some(flat.is_idle())
-    } else {
-        mark
-    }
-}
-
-/// Whether a turn has ended a round that began idle.
-fn ends_idle(flat: &Flat, mark: Option<bool>) -> bool
-    ensures { result ≡ ends_idle (unix_of flat.now) (Round mark) }
-{
-    match mark {
-        Some(idle) => flat.position() == 0 && idle,
-        None => false,
+    match ran.stop {
+        Stop::Halted(word) => Ending::Halted(word),
+        Stop::Idle => Ending::Idle(ran.turns),
+        Stop::PlanDone | Stop::Going => Ending::TurnsSpent(ran.turns),
     }
 }

@@ -62,7 +62,7 @@ pub fn run<S: Source, K: Sink>(
     input: &mut S,
     output: &mut K,
 ) -> Result<Ran, FlatFault>
-    ensures runs { IfOk result (λ ran. (bytes : List ℕ) → S.left input.old ≡ Some bytes → RunsAs (unix_run call_of turns (unix_of flat.old) (schedule_of schedule.old) bytes) S.left K.grew (unix_of flat.new) (schedule_of schedule.new) ran.turns (stop_of ran.stop) input.new output.old output.new) }
+    ensures runs { IfOk result (λ ran. (bytes : List ℕ) → S.left input.old ≡ Some bytes → RunsAs (unix_run call_of turns (unix_of flat.old) (schedule_of schedule.old) bytes) bytes S.left K.grew (unix_of flat.new) (schedule_of schedule.new) ran.turns (stop_of ran.stop) input.new output.old output.new) }
     ensures lost { OnErr result ((bytes : List ℕ) → S.left input.old ≡ Some bytes → TakesFront bytes (unix_run call_of turns (unix_of flat.old) (schedule_of schedule.old) bytes).taken (S.left input.new)) }
     ensures part { OnErr result ((bytes : List ℕ) → S.left input.old ≡ Some bytes → GrewByPrefix K.grew output.old (unix_run call_of turns (unix_of flat.old) (schedule_of schedule.old) bytes).put output.new) }
     ensures cause { IfErr result (IsTurnFault (Rose (S.faults input.old) (S.faults input.new)) (Rose (K.faults output.old) (K.faults output.new))) }

@@ -1,10 +1,9 @@
 //! Whole runs of the program over memory: its words, its input, its output and its notes.
 
 mod assembling;
+mod schedules;
 
-use crate::ending::Ending;
 use crate::finish::Status;
-use crate::once::once;
 use crate::top::keynix;
 use kn_io::{MemSink, MemSource, NoMemory};
 use std::alloc::{AllocError, Global};
@@ -94,6 +93,43 @@ struct Left {
     notes: Vec<u8>,
 }
 
+/// Runs the program with these words over this plan and this input; the calls of plan, input, output and notes with these
+/// numbers fail.
+fn run_planned(
+    alloc: Global,
+    words: &[&str],
+    plan: &[u8],
+    input: &[u8],
+    fails: [&[u32]; 4],
+) -> Result<Left, AllocError> {
+    let mut given = Vec::new(alloc);
+    for word in words {
+        given.push(String::from_str(alloc, word)?)?;
+    }
+    let plan = Vec::from_slice(alloc, plan)?;
+    let mut plan = MemSource::new(plan, Vec::from_slice(alloc, fails[0])?);
+    let input = Vec::from_slice(alloc, input)?;
+    let mut input = MemSource::new(input, Vec::from_slice(alloc, fails[1])?);
+    let output = MemSink::new(alloc, 65_536, Vec::from_slice(alloc, fails[2])?);
+    let notes = MemSink::new(alloc, 4_096, Vec::from_slice(alloc, fails[3])?);
+    let (Ok(mut output), Ok(mut notes)) = (output, notes) else {
+        return Err(AllocError);
+    };
+    let Status(status) = keynix(
+        alloc,
+        &given,
+        &mut plan,
+        &mut input,
+        &mut output,
+        &mut notes,
+    );
+    Ok(Left {
+        status,
+        output: Vec::from_slice(alloc, output.bytes())?,
+        notes: Vec::from_slice(alloc, notes.bytes())?,
+    })
+}
+
 /// Runs the program with these words over this input; the calls of input, output and notes with these numbers fail.
 fn run_failing(
     alloc: Global,
@@ -101,25 +137,13 @@ fn run_failing(
     input: &[u8],
     fails: [&[u32]; 3],
 ) -> Result<Left, AllocError> {
-    let mut given = Vec::new(alloc);
-    for word in words {
-        given.push(String::from_str(alloc, word)?)?;
-    }
-    let mut input = MemSource::new(
-        Vec::from_slice(alloc, input)?,
-        Vec::from_slice(alloc, fails[0])?,
-    );
-    let output = MemSink::new(alloc, 65_536, Vec::from_slice(alloc, fails[1])?);
-    let notes = MemSink::new(alloc, 4_096, Vec::from_slice(alloc, fails[2])?);
-    let (Ok(mut output), Ok(mut notes)) = (output, notes) else {
-        return Err(AllocError);
-    };
-    let Status(status) = keynix(alloc, &given, &mut input, &mut output, &mut notes);
-    Ok(Left {
-        status,
-        output: Vec::from_slice(alloc, output.bytes())?,
-        notes: Vec::from_slice(alloc, notes.bytes())?,
-    })
+    run_planned(
+        alloc,
+        words,
+        b"",
+        input,
+        [&[], fails[0], fails[1], fails[2]],
+    )
 }
 
 /// Runs the program with these words over this input.
@@ -144,18 +168,6 @@ fn check_once(
 fn exit_7_halts_with_7(rt: HostRuntime) -> Result<(), Fail> {
     let output = check_once(&rt, &EXIT_7, 0, "halted 7\n")?;
     assert_eq!(rt; output.len(), 0);
-    Ok(())
-}
-
-#[test]
-fn exit_7_takes_nine_turns(rt: HostRuntime) -> Result<(), Fail> {
-    for (turns, ending) in [(8, Ending::TurnsSpent(8)), (9, Ending::Halted(1792))] {
-        let mut input = MemSource::new(Vec::from_slice(rt.alloc(), &EXIT_7)?, Vec::new(rt.alloc()));
-        let Ok(mut output) = MemSink::new(rt.alloc(), 0, Vec::new(rt.alloc())) else {
-            return Err(Fail::from(AllocError));
-        };
-        assert_eq!(rt; once(rt.alloc(), turns, &mut input, &mut output), ending);
-    }
     Ok(())
 }
 
@@ -403,7 +415,7 @@ fn turns_are_counted_by_the_option(rt: HostRuntime) -> Result<(), Fail> {
 
 #[test]
 fn words_outside_the_grammar_are_usage(rt: HostRuntime) -> Result<(), Fail> {
-    let outside: [&[&str]; 24] = [
+    let outside: [&[&str]; 40] = [
         &[],
         &["d"],
         &["", "once"],
@@ -422,7 +434,23 @@ fn words_outside_the_grammar_are_usage(rt: HostRuntime) -> Result<(), Fail> {
         &["d", "once", "--turns=1000000000001"],
         &["d", "once", "--turns=18446744073709551617"],
         &["d", "once", "--turns=1", "--turns=1"],
-        &["d", "once", "--pages=64"],
+        &["d", "once", "--pages=0"],
+        &["d", "once", "--pages=63"],
+        &["d", "once", "--pages=65"],
+        &["d", "once", "--pages=16448"],
+        &["d", "once", "--pages=064"],
+        &["d", "once", "--pages=64", "--turns=9", "--pages=64"],
+        &["d", "once", "--quantum=0"],
+        &["d", "once", "--quantum=10001"],
+        &["d", "once", "--quantum"],
+        &["d", "once", "--quantum=1", "--quantum=1"],
+        &["d", "once", "--plan"],
+        &["d", "once", "--plan="],
+        &["d", "once", "--plan=Given"],
+        &["d", "once", "--plan=given "],
+        &["d", "once", "--plan=given", "--plan=round"],
+        &["d", "once", "--every=1"],
+        &["d", "asm", "--pages=64"],
         &["-d", "asm"],
         &["d", "asm", ""],
         &["d", "asm", "asm"],

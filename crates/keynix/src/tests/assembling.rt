@@ -3,7 +3,7 @@
 use super::{EXIT_7, run, run_failing};
 use crate::finish::Status;
 use crate::top::keynix;
-use kn_io::{MemSink, MemSource, WriteSink};
+use kn_io::{ByteSource, MemSink, MemSource, WriteSink};
 use std::alloc::AllocError;
 use std::io::{self, ErrorKind, Write};
 use std::test::Fail;
@@ -109,7 +109,15 @@ fn a_fault_in_mid_file_leaves_its_front(rt: HostRuntime) -> Result<(), Fail> {
         return Err(Fail::from(AllocError));
     };
     let mut output = WriteSink::new(&mut writer);
-    let Status(status) = keynix(rt.alloc(), &words, &mut input, &mut output, &mut notes);
+    let mut plan = ByteSource::new(Vec::new(rt.alloc()));
+    let Status(status) = keynix(
+        rt.alloc(),
+        &words,
+        &mut plan,
+        &mut input,
+        &mut output,
+        &mut notes,
+    );
     assert_eq!(rt; status, 4);
     assert_eq!(rt; notes.bytes(), b"write fault\n".as_slice());
     assert_eq!(rt; writer.bytes.as_slice(), &EXIT_7[..100]);

@@ -1,6 +1,6 @@
 use Rattle.std.proofs.Common.{◌≡◌, Some, drop}
 use Rattle.std.specs.Prelude.{map, string_bytes}
-use Rattle.unix_model.specs.Words.{options_of, no_options}
+use Rattle.keynix.specs.Words.{options_of, no_options}
 use Rattle.keynix.specs.WordsView.{options_view}
 use Rattle.keynix.proofs.words.read_options.Given as goal
 
