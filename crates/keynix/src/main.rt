@@ -17,7 +17,7 @@ mod words;
 
 use crate::finish::Status;
 use crate::top::keynix;
-use kn_io::{ByteSource, ReadSource, WriteSink};
+use kn_io::{FileSource, ReadSource, WriteSink};
 use std::alloc::{AllocError, Global};
 use std::env;
 use std::io::{self, BufReader};
@@ -44,9 +44,26 @@ fn read_words(rt: &(impl Env + Alloc<A = Global>)) -> Result<Vec<String>, AllocE
     }
 }
 
+/// The path of the plan: the disk's word, which is empty where there is none, with `.plan` after it.
+fn plan_path(alloc: Global, words: &[String]) -> Result<String, AllocError> {
+    let disk = match words.first() {
+        Some(disk) => disk.as_str(),
+        None => "",
+    };
+    format!(in alloc; "{disk}.plan")
+}
+
 fn main(rt: HostRuntime) -> ExitCode {
     let words = match read_words(&rt) {
         Ok(words) => words,
+        Err(_) => return ExitCode::from(6),
+    };
+    let path = match plan_path(rt.alloc(), &words) {
+        Ok(path) => path,
+        Err(_) => return ExitCode::from(6),
+    };
+    let files = match rt.clone() {
+        Ok(files) => files,
         Err(_) => return ExitCode::from(6),
     };
     let reader = match BufReader::new(rt.alloc(), rt.reader()) {
@@ -56,7 +73,7 @@ fn main(rt: HostRuntime) -> ExitCode {
     let Status(status) = keynix(
         rt.alloc(),
         &words,
-        &mut ByteSource::new(Vec::new(rt.alloc())),
+        &mut FileSource::at(files, path),
         &mut ReadSource::new(reader),
         &mut WriteSink::new(rt.stdout()),
         &mut WriteSink::new(rt.stderr()),
