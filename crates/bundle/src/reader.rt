@@ -224,6 +224,7 @@ pub fn next_entry<S: Source>(
     ensures fault { IfErr result (FailsEntry (place_of reader.old) (pending reader.old) (S.left from.old)) }
     ensures pending { pending reader.new ≡ [] }
     ensures open { IfOk result (λ entry. IfSome entry (λ told. IsOpen reader.new)) }
+    ensures room { IfOk result (λ entry. IfSome entry (λ told. (place_of reader.new).room + 1 ≡ (place_of reader.old).room)) }
     ensures counted { S.faults from.old ≤ S.faults from.new }
     ensures failed { IfErr result (λ fault. fault ≡ BundleFault.ReadFault → Rose (S.faults from.old) (S.faults from.new)) }
 {

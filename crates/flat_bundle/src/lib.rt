@@ -1,0 +1,8 @@
+//! Bundles, booted on the plain machine.
+#![tactic(auto)]
+
+mod booting;
+mod fault;
+
+pub use booting::boot;
+pub use fault::BootFault;
