@@ -133,3 +133,12 @@ abbrev pub TakesGiven : Place → Said → Option (List ℕ) → Entry → Place
 TakesGiven place said old entry now left =
     (bytes : List ℕ) → old ≡ Some bytes → (made : Made) × (made_of place.line (what_view said.what) bytes ≡ Ok made) × (left ≡ Some made.rest)
     × IsEntry (record { path = said.path.now; content = made.content; line = place.line }) entry × (now ≡ place_behind place said.path.now made)
+
+-- ---- counts
+
+-- unless a call failed, the source's count of faults is the same
+abbrev pub CountsSame : {A : Type 0} → Type 0 → Result A BundleFault → Type 0
+CountsSame same (Ok answer) = same
+CountsSame same (Err (At kind line)) = same
+CountsSame same (Err NoMemory) = same
+CountsSame same (Err ReadFault) = Unit {0}

@@ -8,7 +8,7 @@ ghost use Rattle.rv_asm.specs.Programs.{Program, assembled, scan_lines, start_sc
 ghost use Rattle.unix_model.specs.Texts.{lines_of};
 ghost use Rattle.bundle.specs.Contents.{Holds, file_made, front_refused, made_of, part_made, source_made, user_made};
 ghost use Rattle.bundle.specs.Parts.{part_of};
-ghost use Rattle.bundle.specs.Streams.{TakesMade, FailsToMake, Fails, IsRefusedBehind};
+ghost use Rattle.bundle.specs.Streams.{CountsSame, TakesMade, FailsToMake, Fails, IsRefusedBehind};
 ghost use Rattle.bundle.specs.Views.{AreFew, IsContent, what_view};
 
 use crate::fault::{BundleFault, BundleKind};
@@ -34,6 +34,7 @@ pub fn content<S: Source>(
     ensures fault { IfErr result (FailsToMake (λ bytes. made_of (lines_begun lines.old) (what_view what) bytes) (S.left from.old)) }
     ensures pending { pending lines.new ≡ [] }
     ensures few { IfOk result (λ file. lines_begun lines.new ≤ lines_begun lines.old + 100000) }
+    ensures same { CountsSame (S.faults from.new ≡ S.faults from.old) result }
     ensures counted { S.faults from.old ≤ S.faults from.new }
     ensures failed { IfErr result (λ fault. fault ≡ BundleFault.ReadFault → Rose (S.faults from.old) (S.faults from.new)) }
 {
@@ -65,6 +66,7 @@ fn part_file<S: Source>(
     ensures fault { IfErr result (FailsToMake (λ bytes. part_made (lines_begun lines.old) form count (part_of form count bytes)) (S.left from.old)) }
     ensures pending { pending lines.new ≡ [] }
     ensures few { IfOk result (λ file. lines_begun lines.new ≤ lines_begun lines.old + count) }
+    ensures same { CountsSame (S.faults from.new ≡ S.faults from.old) result }
     ensures counted { S.faults from.old ≤ S.faults from.new }
     ensures failed { IfErr result (λ fault. fault ≡ BundleFault.ReadFault → Rose (S.faults from.old) (S.faults from.new)) }
 {
@@ -90,6 +92,7 @@ fn plain_file<S: Source>(
     ensures fault { IfErr result (FailsToMake (λ bytes. file_made (lines_begun lines.old) count (part_of form count bytes)) (S.left from.old)) }
     ensures pending { pending lines.new ≡ [] }
     ensures few { IfOk result (λ file. lines_begun lines.new ≤ lines_begun lines.old + count) }
+    ensures same { CountsSame (S.faults from.new ≡ S.faults from.old) result }
     ensures counted { S.faults from.old ≤ S.faults from.new }
     ensures failed { IfErr result (λ fault. fault ≡ BundleFault.ReadFault → Rose (S.faults from.old) (S.faults from.new)) }
 {
@@ -115,6 +118,7 @@ fn source_file<S: Source>(
     ensures fault { IfErr result (FailsToMake (λ bytes. source_made (lines_begun lines.old) count (part_of Form.Asm count bytes)) (S.left from.old)) }
     ensures pending { pending lines.new ≡ [] }
     ensures few { IfOk result (λ file. lines_begun lines.new ≤ lines_begun lines.old + count) }
+    ensures same { CountsSame (S.faults from.new ≡ S.faults from.old) result }
     ensures counted { S.faults from.old ≤ S.faults from.new }
     ensures failed { IfErr result (λ fault. fault ≡ BundleFault.ReadFault → Rose (S.faults from.old) (S.faults from.new)) }
 {

@@ -3,7 +3,7 @@
 ghost use Rattle.std.specs.Prelude.{◌≡◌, ◌+◌, ◌-◌, ◌^◌, ◌<◌, ◌≤◌, [], OnOk, IfErr};
 ghost use Rattle.kn_io.specs.Faults.{Rose};
 ghost use Rattle.kn_text.specs.Lines.{pending, lines_begun};
-ghost use Rattle.bundle.specs.Streams.{TakesLine, FailsLine};
+ghost use Rattle.bundle.specs.Streams.{CountsSame, TakesLine, FailsLine};
 
 use crate::fault::{BundleFault, BundleKind};
 use arrayvec::ArrayVec;
@@ -22,6 +22,7 @@ pub fn read_line<S: Source>(
     ensures pending { pending lines.new ≡ [] }
     ensures line { OnOk result (lines_begun lines.new ≡ lines_begun lines.old + 1) }
     ensures few { lines_begun lines.new ≤ lines_begun lines.old + 1 }
+    ensures same { CountsSame (S.faults from.new ≡ S.faults from.old) result }
     ensures counted { S.faults from.old ≤ S.faults from.new }
     ensures failed { IfErr result (λ fault. fault ≡ BundleFault.ReadFault → Rose (S.faults from.old) (S.faults from.new)) }
 {

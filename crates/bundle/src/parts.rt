@@ -3,7 +3,7 @@
 ghost use Rattle.std.specs.Prelude.{◌≡◌, ◌⊎◌, ◌+◌, ◌-◌, ◌^◌, ◌<◌, ◌≤◌, [], IfOk, IfErr};
 ghost use Rattle.kn_io.specs.Faults.{Rose};
 ghost use Rattle.kn_text.specs.Lines.{pending, lines_begun};
-ghost use Rattle.bundle.specs.Streams.{TakesPart};
+ghost use Rattle.bundle.specs.Streams.{CountsSame, TakesPart};
 ghost use Rattle.bundle.specs.Views.{Adds};
 
 use crate::fault::{BundleFault, BundleKind};
@@ -41,6 +41,7 @@ pub fn read_part<S: Source>(
     ensures fault { IfErr result (λ fault. (fault ≡ BundleFault.ReadFault) ⊎ (fault ≡ BundleFault.NoMemory)) }
     ensures pending { pending lines.new ≡ [] }
     ensures few { IfOk result (λ end. lines_begun lines.new ≤ lines_begun lines.old + count) }
+    ensures same { CountsSame (S.faults from.new ≡ S.faults from.old) result }
     ensures counted { S.faults from.old ≤ S.faults from.new }
     ensures failed { IfErr result (λ fault. fault ≡ BundleFault.ReadFault → Rose (S.faults from.old) (S.faults from.new)) }
 {

@@ -8,7 +8,7 @@ ghost use Rattle.kn_text.specs.Lines.{lines_begun};
 ghost use Rattle.bundle.specs.Bundles.{start};
 ghost use Rattle.bundle.specs.Contents.{Content, made_of};
 ghost use Rattle.bundle.specs.Paths.{with_path};
-ghost use Rattle.bundle.specs.Streams.{TakesEntry, FailsEntry, Begins, FailsToBegin, Says, SaysNothing, TakesGiven, FailsToMake};
+ghost use Rattle.bundle.specs.Streams.{CountsSame, TakesEntry, FailsEntry, Begins, FailsToBegin, Says, SaysNothing, TakesGiven, FailsToMake};
 ghost use Rattle.bundle.specs.Views.{AreFew, IsContent, IsEntry, IsOpen, known_of, pending, place_of, what_view};
 
 use crate::contents::content;
@@ -68,6 +68,7 @@ impl BundleReader {
         ensures room { self.new.room ≡ self.old.room }
         ensures open { OnOk result (IsOpen self.new) }
         ensures pending { OnErr result (pending self.new ≡ []) }
+        ensures same { CountsSame (S.faults from.new ≡ S.faults from.old) result }
         ensures counted { S.faults from.old ≤ S.faults from.new }
         ensures failed { IfErr result (λ fault. fault ≡ BundleFault.ReadFault → Rose (S.faults from.old) (S.faults from.new)) }
     {
@@ -140,6 +141,7 @@ impl BundleReader {
         ensures pending { lines.pending self.new.lines ≡ [] }
         ensures few { OnOk result (lines_begun self.new.lines ≤ lines_begun self.old.lines + 100000) }
         ensures room_left { OnOk result (self.new.room + 1 ≡ self.old.room) }
+        ensures same { CountsSame (S.faults from.new ≡ S.faults from.old) result }
         ensures counted { S.faults from.old ≤ S.faults from.new }
         ensures failed { IfErr result (λ fault. fault ≡ BundleFault.ReadFault → Rose (S.faults from.old) (S.faults from.new)) }
     {
@@ -225,6 +227,7 @@ pub fn next_entry<S: Source>(
     ensures pending { pending reader.new ≡ [] }
     ensures open { IfOk result (λ entry. IfSome entry (λ told. IsOpen reader.new)) }
     ensures room { IfOk result (λ entry. IfSome entry (λ told. (place_of reader.new).room + 1 ≡ (place_of reader.old).room)) }
+    ensures same { CountsSame (S.faults from.new ≡ S.faults from.old) result }
     ensures counted { S.faults from.old ≤ S.faults from.new }
     ensures failed { IfErr result (λ fault. fault ≡ BundleFault.ReadFault → Rose (S.faults from.old) (S.faults from.new)) }
 {

@@ -1,2 +1,3 @@
 mod StoreLaws
 mod BootLaws
+pub mod OutcomeLaws

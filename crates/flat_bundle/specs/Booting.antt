@@ -49,3 +49,7 @@ pub data Boots : Unix → Bundle → Result Booted Refusal → Type 0 where
 -- what comes of a bundle's text, on a machine of so many pages with this quantum
 abbrev pub BootsText : (pages quantum : ℕ) → List ℕ → Result Booted Refusal → Type 0
 BootsText pages quantum text result = Boots (empty_machine pages quantum) (bundle_of text) result
+
+-- A bundle boots in one way.
+abbrev pub OneOutcome : Type 0
+OneOutcome = (unix : Unix) (bundle : Bundle) (first second : Result Booted Refusal) → Boots unix bundle first → Boots unix bundle second → first ≡ second

@@ -60,3 +60,12 @@ BootsAs pages quantum text left (Err (fault.NoRoom line)) = BootsText pages quan
 BootsAs pages quantum text left (Err (fault.Elf bad)) = BootsText pages quantum text (Err (BadProgram bad))
 BootsAs pages quantum text left (Err fault.ReadFault) = Unit {0}
 BootsAs pages quantum text left (Err fault.NoMemory) = Unit {0}
+
+-- unless a call of the source failed, its count of faults is the same
+abbrev pub CountsSame : Type 0 → Result Flat BootFault → Type 0
+CountsSame same (Ok flat) = same
+CountsSame same (Err (fault.At kind line)) = same
+CountsSame same (Err (fault.NoRoom line)) = same
+CountsSame same (Err (fault.Elf bad)) = same
+CountsSame same (Err fault.NoMemory) = same
+CountsSame same (Err fault.ReadFault) = Unit {0}

@@ -1,11 +1,11 @@
 //! From a bundle to a machine with its first process.
 
-ghost use Rattle.std.specs.Prelude.{◌≡◌, ◌≤◌, ℕ, List, ◌++◌, Some, IfErr, OnOk};
+ghost use Rattle.std.specs.Prelude.{◌≡◌, ◌≢◌, ◌≤◌, ℕ, List, ◌++◌, Some, IfErr, OnOk};
 ghost use Rattle.std.specs.Option.{option_to_list};
 ghost use Rattle.kn_io.specs.Faults.{Rose};
 ghost use Rattle.unix_model.specs.Boot.{with_init};
 ghost use Rattle.flat_unix.specs.FlatView.{unix_of};
-ghost use Rattle.flat_bundle.specs.Steps.{BootsAs, Loads, NotStored, Stores, fault_of};
+ghost use Rattle.flat_bundle.specs.Steps.{BootsAs, CountsSame, Loads, NotStored, Stores, fault_of};
 
 use crate::fault::BootFault;
 use bundle::{BundleFault, BundleKind, BundleReader, Entry, next_entry};
@@ -35,6 +35,7 @@ pub fn boot<S: Source>(
     requires pages { (64 ≤ pages) × (pages ≤ 16384) }
     requires quantum { (1 ≤ quantum) × (quantum ≤ 10000) }
     ensures boots { (bytes : List ℕ) → S.left from.old ≡ Some bytes → BootsAs pages quantum (option_to_list first ++ bytes) (S.left from.new) result }
+    ensures same { CountsSame (S.faults from.new ≡ S.faults from.old) result }
     ensures counted { S.faults from.old ≤ S.faults from.new }
     ensures failed { IfErr result (λ fault. fault ≡ BootFault.ReadFault → Rose (S.faults from.old) (S.faults from.new)) }
 {
@@ -89,7 +90,8 @@ fn store(alloc: Global, flat: &mut Flat, entry: &Entry) -> Result<(), BootFault>
 
 /// Loads `/init`.
 fn start(alloc: Global, flat: Flat) -> Result<Flat, BootFault>
-    ensures { Loads (with_init (unix_of flat)) result }
+    ensures loads { Loads (with_init (unix_of flat)) result }
+    ensures unread { IfErr result (λ fault. fault ≢ BootFault.ReadFault) }
 {
     match flat.file_bytes(INIT) {
         Some(_) => {}

@@ -1,4 +1,4 @@
-use Rattle.std.proofs.Common.{arith}
+use Rattle.std.proofs.Common.{◌∙◌, arith}
 use Rattle.kn_text.specs.Lines.{pending, lines_begun}
 use Rattle.bundle.proofs.PartLaws.{read-more, read-bad, read-wrong, read-whole}
 use Rattle.bundle.proofs.parts.read_part.Goals as goal
@@ -21,7 +21,7 @@ reading-preserved g c = record {
   pending = c.in-Ok.ensures.pending;
   line = omega (arith, c.in-Ok.ensures.line, c.reading.invariant.line);
   few = omega (arith, c.reading-test.true);
-  counted = omega (arith, c.reading.invariant.counted, c.in-Ok.ensures.counted);
+  same = c.in-Ok.ensures.same ∙ c.reading.invariant.same;
 }
 
 pub returns-clause-taken : goal.returns-clause-taken

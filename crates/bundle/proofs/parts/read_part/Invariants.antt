@@ -10,7 +10,7 @@ invariant-reading g l = record {
   pending : pending l.lines ≡ [];
   line : lines_begun l.lines ≡ lines_begun l.fn.lines + l.done;
   few : l.done ≤ l.count;
-  counted : g.S.Source.faults l.fn.from ≤ g.S.Source.faults l.from;
+  same : g.S.Source.faults l.from ≡ g.S.Source.faults l.fn.from;
 }
 
 abbrev pub decreases-reading : goal.decreases-reading

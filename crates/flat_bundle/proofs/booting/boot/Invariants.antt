@@ -1,4 +1,4 @@
-use Rattle.std.proofs.Common.{◌≤◌}
+use Rattle.std.proofs.Common.{◌≡◌}
 use Rattle.std.specs.Option.{option_to_list}
 use Rattle.flat_unix.specs.FlatView.{unix_of}
 use Rattle.bundle.specs.Views.{IsOpen, pending, place_of}
@@ -9,7 +9,7 @@ abbrev pub invariant-reading : goal.invariant-reading
 invariant-reading g l = record {
   so_far : ReadsSoFar l.pages l.quantum (option_to_list l.fn.first) (g.S.Source.left l.fn.from) (unix_of l.flat) (place_of l.reader) (pending l.reader) (g.S.Source.left l.from);
   is_open : IsOpen l.reader;
-  counted : g.S.Source.faults l.fn.from ≤ g.S.Source.faults l.from;
+  same : g.S.Source.faults l.from ≡ g.S.Source.faults l.fn.from;
 }
 
 abbrev pub decreases-reading : goal.decreases-reading
