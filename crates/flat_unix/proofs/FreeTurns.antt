@@ -1,5 +1,5 @@
 -- Turns of slots where nothing is there to do, and of processes that run.
-use Rattle.std.proofs.Common.{◌≡◌, ℕ, zero, suc, ◌+◌, ◌*◌, ◌%◌, ◌<◌, Bool, true, false, Option, Some, None, List, [], refl, sym, ap, ◌∙◌, arith}
+use Rattle.std.proofs.Common.{◌≡◌, ℕ, zero, suc, ◌+◌, ◌*◌, ◌%◌, ◌-◌, ◌<◌, ◌≤◌, Bool, true, false, Option, Some, None, List, [], refl, sym, ap, ◌∙◌, arith}
 use Rattle.std.specs.Prelude.{◌==◌, if◌then◌else◌, option_map, is_some}
 use Rattle.std.proofs.lemmas.Bool.Decides.{nat_tests}
 use Rattle.std.proofs.Math.Nat.{add-mod_left, add-mod-mod, mod-eq_of_lt}
@@ -78,7 +78,7 @@ module _ (unix : Unix) (slot : ℕ) (bytes : List ℕ) where
 -- ---- many at once
 
 -- the state at another position
-abbrev at_position : Unix → ℕ → Unix
+abbrev pub at_position : Unix → ℕ → Unix
 at_position unix position = record unix { position = position }
 
 next : (p m n : ℕ) (wraps : Bool) → p + 1 == m ≡ wraps → ((if wraps then 0 else p + 1) + n) % m ≡ (p + suc n) % m
@@ -111,3 +111,13 @@ after-nothing zero slot unix nothing = refl
 after-nothing (suc n) slot unix nothing =
     ap (λ turn. after_turns slot n turn.state) (turned-nothing unix slot [] nothing)
     ∙ after-nothing n slot (ticked unix) nothing
+
+-- two numbers below a round, added up
+pub sum-inside : (p t m : ℕ) → p + t < m → p + t ≡ (p + t) % m
+sum-inside p t m inside = sym (mod-eq_of_lt inside)
+
+pub sum-over : (p t m : ℕ) → p < m → t < m → m ≤ p + t → p + t - m ≡ (p + t) % m
+sum-over p t m below less over =
+    let rest : p + t - m < m = omega (arith, below, less, over) in
+    let whole : p + t ≡ m + (p + t - m) = omega (arith, over) in
+    sym (ap (λ k. k % m) whole ∙ add-mod_left m (p + t - m) ∙ mod-eq_of_lt rest)

@@ -29,6 +29,8 @@ pub struct Flat {
     pub(crate) state: State,
 }
 
+ghost use Rattle.std.specs.Prelude.{◌≡◌, ◌+◌, ◌%◌, ◌<◌, ◌≤◌};
+
 impl Flat {
     ghost use Rattle.std.specs.Prelude.{◌≡◌, ℕ, ◌+◌, ◌*◌, ◌%◌, ◌<◌, ◌≤◌, Bool, true, List, [], Option, Some, None, Err, IfOk, IfErr, OnErr, option_map};
     ghost use Rattle.kn_io.specs.Faults.{Rose};
@@ -177,7 +179,28 @@ impl Flat {
         ensures turns { unix_of self.new ≡ after_turns slot number (unix_of self.old) }
         ensures ticks { unix_of self.new ≡ ticked_times number (unix_of self.old) }
     {
-        let round = 64 * self.state.quantum;
-        self.state.position = (self.state.position + number % round) % round;
+        self.state.position = advanced(self.state.position, number, 64 * self.state.quantum);
+    }
+}
+
+/// The position after so many turns.
+fn advanced(position: u32, number: u32, round: u32) -> u32
+    requires inside { position < round }
+    requires few { round ≤ 640000 }
+    ensures { result ≡ (position + number % round) % round }
+{
+    let next = position + remainder(number, round);
+    if next < round { next } else { next - round }
+}
+
+/// What is left of so many turns after whole rounds. Most stretches are shorter than a round, so that nothing is divided.
+fn remainder(number: u32, round: u32) -> u32
+    requires { 0 < round }
+    ensures { result ≡ number % round }
+{
+    if number < round {
+        number
+    } else {
+        number % round
     }
 }

@@ -1,8 +1,10 @@
 -- How many pages stand below a key.
-use Rattle.std.proofs.Common.{◌≡◌, ◌≢◌, ◌≤◌, ◌+◌, ◌-◌, ◌*◌, ℕ, zero, suc, Some, true, false, refl, ap, sym, arith, ⊎_elim, add-one}
+use Rattle.std.proofs.Common.{◌≡◌, ◌≢◌, ◌≤◌, ◌+◌, ◌-◌, ◌*◌, ℕ, zero, suc, Some, true, false, refl, ap, sym, arith, ⊎_elim, add-one, ◌∙◌}
 use Rattle.std.specs.Option.{is_some, IsSome}
 use Rattle.std.proofs.lemmas.Bool.{cases_Bool}
 use Rattle.kn_base.specs.declared.key.Key.{Key}
+use Rattle.kn_base.specs.declared.key.Key.TheVariants.{Null, Number, Page, Node, Segment, Start, Resume, Domain, Meter, Service}
+use Rattle.kn_base.specs.declared.key.NodeId.{NodeId}
 use Rattle.unix_model.specs.Tables.{sum_below}
 use Rattle.forest.specs.Objects.{NodeObject, named}
 use Rattle.forest.specs.Walks.{place_of, key_below, mapping_of}
@@ -41,6 +43,11 @@ few_most (suc (suc (suc (suc (suc levels))))) low = absurd (omega arith)
 pub below_few : (keys : ℕ → Key) (key : Key) (levels : ℕ) → levels ≤ 4 → pages_below keys key levels ≤ 65536
 below_few keys key levels low = let a = below_most keys key levels in let b = few_most levels low in omega arith
 
+sum_none : (f : ℕ → ℕ) (n : ℕ) → ((k : ℕ) → f k ≡ 0) → sum_below f n ≡ 0
+unfolding sum_below
+sum_none f zero none = refl
+sum_none f (suc n) none = let rest = sum_none f n none in let here = none n in omega arith
+
 pub sum_few : (f : ℕ → ℕ) (n : ℕ) → ((k : ℕ) → f k ≤ 65536) → sum_below f n ≤ n * 65536
 sum_few f n few = sum_most f n 65536 few
 
@@ -66,3 +73,26 @@ pub below_owned : (forest : Forest) → Sound forest → (upper : Key) (digit no
 below_owned forest sound upper digit node h =
     let s = step forest.keys upper digit (NodeObject node) h in
     owned_object forest sound (place_of s.node digit) (NodeObject node) s.here
+
+-- below Null no page stands, ..
+nothing_below : (keys : ℕ → Key) (levels : ℕ) → pages_below keys Null levels ≡ 0
+nothing_below keys zero = refl
+nothing_below keys (suc levels) = sum_none (λ digit. pages_below keys (key_below keys Null digit) levels) 16 (λ digit. nothing_below keys levels)
+
+-- .. nor below any key but that of a node
+pub none_below : (keys : ℕ → Key) (key : Key) (levels : ℕ) → ((digit : ℕ) → key_below keys key digit ≡ Null) → levels ≢ 0 → pages_below keys key levels ≡ 0
+none_below keys key zero ends some = absurd (some refl)
+none_below keys key (suc levels) ends some =
+    sum_none (λ digit. pages_below keys (key_below keys key digit) levels) 16 (λ digit. ap (λ below. pages_below keys below levels) (ends digit) ∙ nothing_below keys levels)
+
+pub ends_below : (keys : ℕ → Key) (key : Key) → ((node : NodeId) (height : ℕ) → key ≢ Segment node height) → (digit : ℕ) → key_below keys key digit ≡ Null
+ends_below keys Null other digit = refl
+ends_below keys (Number body) other digit = refl
+ends_below keys (Page page writable) other digit = refl
+ends_below keys (Node node) other digit = refl
+ends_below keys (Segment node height) other digit = absurd (other node height refl)
+ends_below keys (Start root byte) other digit = refl
+ends_below keys (Resume root count) other digit = refl
+ends_below keys (Domain root) other digit = refl
+ends_below keys (Meter slot) other digit = refl
+ends_below keys (Service code) other digit = refl

@@ -1,6 +1,6 @@
 //! How many pages a space maps.
 
-ghost use Rattle.std.specs.Prelude.{◌≡◌, ℕ, ◌+◌, ◌-◌, ◌*◌, ◌<◌, ◌≤◌, IsSome, Some, List, []};
+ghost use Rattle.std.specs.Prelude.{◌≡◌, ◌≢◌, false, ℕ, ◌+◌, ◌-◌, ◌*◌, ◌<◌, ◌≤◌, IsSome, Some, List, []};
 ghost use Rattle.kn_base.specs.declared.key.Key.{Key};
 ghost use Rattle.kn_base.specs.Memory.{Memory};
 ghost use Rattle.kernel_tables.specs.Kernel.{Kernel, kernel_of, Sized, IsSized};
@@ -26,6 +26,16 @@ fn page_number(key: Key) -> u32
     }
 }
 
+// Whether a key leads to a node of a tree. Below any other key no page stands.
+fn is_segment(key: Key) -> bool
+    ensures { result ≡ false → (keys : ℕ → Key) (levels : ℕ) → levels ≢ 0 → pages_below keys key levels ≡ 0 }
+{
+    match key {
+        Key::Segment { .. } => true,
+        _ => false,
+    }
+}
+
 // The number of pages so many levels below a key of a tree.
 fn pages_below<T: Store>(store: &T, key: Key, levels: u8) -> u32
     requires good { BankGood (kernel_of (T.memory store.now)) }
@@ -36,6 +46,9 @@ fn pages_below<T: Store>(store: &T, key: Key, levels: u8) -> u32
 {
     if levels == 0 {
         return page_number(key);
+    }
+    if !is_segment(key) {
+        return 0;
     }
     let mut pages = 0;
     for digit in 0..16 {
