@@ -310,17 +310,23 @@ fn source_at<F: Files>(files: F, path: String) -> FileSource<F> {
     FileSource::at(files, path)
 }
 
+// So many bytes, of which each is one more than the one before, and round.
+fn counting_bytes(alloc: Global, length: u32) -> Result<Vec<u8>, Fail> {
+    let mut bytes = Vec::new(alloc);
+    for number in 0..length {
+        bytes.push((number % 251) as u8)?;
+    }
+    Ok(bytes)
+}
+
 #[test]
 fn a_file_is_a_source(rt: HostRuntime) -> Result<(), Fail> {
     let path = "kn_io_test_file";
-    let mut bytes = Vec::new(rt.alloc());
-    for number in 0..10_000u32 {
-        bytes.push((number % 251) as u8)?;
-    }
-    for length in [0usize, 1, 4095, 4096, 4097, 8192, 10_000] {
-        fs::write(&rt, path, &bytes[..length])?;
+    for length in [0, 1, 4095, 4096, 4097, 8192, 10_000] {
+        let bytes = counting_bytes(rt.alloc(), length)?;
+        fs::write(&rt, path, bytes.as_slice())?;
         let mut source = source_at(rt.clone()?, String::from_str(rt.alloc(), path)?);
-        for byte in &bytes[..length] {
+        for byte in &bytes {
             assert!(rt; next(&mut source) == Ok(Some(*byte)));
         }
         assert!(rt; next(&mut source) == Ok(None), "after {length} bytes");
