@@ -8,8 +8,11 @@ use Rattle.keynix.specs.Words.{Command, Once, Asm, Setup}
 use Rattle.rv_asm.specs.Programs as asm
 use Rattle.keynix.specs.declared.ending.Ending.{Ending}
 use Rattle.keynix.specs.declared.ending.Ending.TheVariants.{Halted, TurnsSpent, Idle, Assembled, Usage, Refused, NotAssembled, BadPlan, ReadFault, WriteFault, NoMemory}
-use Rattle.keynix.specs.declared.ending.Refusal.{Refusal}
-use Rattle.keynix.specs.Endings.{Booted, Ends, EndsAssembly, EndsOnce, EndsPlan, FromPlan, IsCaused, IsPlan, IsSpent, KeepsOutput, PlanEnds, RefusesPlanAs, RunsOn, RefusesAs, WritesFile, WritesPart, boot_of, run_of, schedule_told}
+use Rattle.flat_bundle.specs.Booting.{Booted, OneOutcome, Refusal}
+use Rattle.keynix.specs.declared.ending.Refusal as own
+use Rattle.keynix.specs.Inputs.{IsBoot, refusal_of}
+use Rattle.keynix.proofs.BootSteps.{one-boot}
+use Rattle.keynix.specs.Endings.{Ends, EndsAssembly, EndsOn, EndsOnce, EndsPlan, FromPlan, IsCaused, IsPlan, IsSpent, IsUnread, KeepsOutput, PlanEnds, RefusesPlanAs, RunsOn, RefusesAs, WritesFile, WritesPart, run_of, schedule_told}
 use Rattle.keynix.specs.Promises.{Answers, ByCommand, HaltsOn, IdlesOn, IsPlanOf, ReadCause, SpendsOn, RefusesInput, RefusesPlan, RefusesOn, is_status, stop_status}
 use Rattle.keynix.specs.Telling.{Tells, TakesMemory, PutsNote, PutsPartOfNote, ending_note, ending_status, idle_note, plan_note, refusal_note, usage_note, read_fault_note, write_fault_note, no_memory_note}
 
@@ -33,6 +36,20 @@ ending-status (BadPlan line) = refl
 ending-status ReadFault = refl
 ending-status WriteFault = refl
 ending-status NoMemory = refl
+
+-- an ending whose input wasn't read has another
+unread-status : {A : Type 0} (ending : Ending) (n : ℕ) → IsUnread (Unit {0}) ending → ending_status ending ≡ n → n ≢ 3 → n ≢ 6 → A
+unread-status ReadFault n unread e three six = absurd (three (sym e))
+unread-status NoMemory n unread e three six = absurd (six (sym e))
+unread-status WriteFault n unread e three six = absurd unread
+unread-status (Halted word) n unread e three six = absurd unread
+unread-status (TurnsSpent made) n unread e three six = absurd unread
+unread-status (Idle made) n unread e three six = absurd unread
+unread-status Assembled n unread e three six = absurd unread
+unread-status Usage n unread e three six = absurd unread
+unread-status (Refused refusal) n unread e three six = absurd unread
+unread-status (NotAssembled kind line) n unread e three six = absurd unread
+unread-status (BadPlan line) n unread e three six = absurd unread
 
 pub status-one : {E : Type 0} (noted : E → List ℕ → E → Type 0) (rose : Type 0) (ending : Ending) (old new : E) (status : ℕ) → Tells noted rose ending old new status → is_status status ≡ true
 status-one noted rose ending old new status (inl told) = ap is_status told.0 ∙ ending-status ending
@@ -58,7 +75,7 @@ module _ {S P K E : Type 0} (left : S → Option (List ℕ)) (plan_left : P → 
   usage_by command NoMemory follows e note = absurd (omega (arith, e))
 
   -- the machine halted
-  halted_by : (setup : Setup) (text bytes : List ℕ) (schedule : Schedule) (booted : Result Booted Refusal) (ending : Ending) → schedule_told setup.plan text ≡ Ok schedule → EndsPlan setup.plan (plan_left plan_new) ending → boot_of setup bytes ≡ booted → Ends setup.turns schedule booted left grew source_new output_old output_new ending
+  halted_by : (setup : Setup) (text bytes : List ℕ) (schedule : Schedule) (booted : Result Booted Refusal) (ending : Ending) → schedule_told setup.plan text ≡ Ok schedule → EndsPlan setup.plan (plan_left plan_new) ending → IsBoot setup bytes booted → Ends setup.turns schedule booted left grew source_new output_old output_new ending
       → ending_status ending ≡ 0 → PutsNote noted (ending_note ending) notes_old notes_new
       → HaltsOn setup text bytes left grew noted (plan_left plan_new) source_new output_old output_new notes_old notes_new
   halted_by setup text bytes schedule (Ok booted) (Halted word) is ended same runs e note =
@@ -79,7 +96,11 @@ module _ {S P K E : Type 0} (left : S → Option (List ℕ)) (plan_left : P → 
   halted_once : (setup : Setup) (text bytes : List ℕ) (told : Result Schedule ℕ) (ending : Ending) → schedule_told setup.plan text ≡ told → EndsOnce setup told left grew (plan_left plan_new) source_old source_new output_old output_new ending → left source_old ≡ Some bytes
       → ending_status ending ≡ 0 → PutsNote noted (ending_note ending) notes_old notes_new
       → HaltsOn setup text bytes left grew noted (plan_left plan_new) source_new output_old output_new notes_old notes_new
-  halted_once setup text bytes (Ok schedule) ending is ends known e note = halted_by setup text bytes schedule (boot_of setup bytes) ending is ends.0 refl (ends.1 bytes known) e note
+  halted_once setup text bytes (Ok schedule) ending is ends known e note = by (ends.1 bytes known)
+    where
+      by : EndsOn setup schedule bytes left grew source_new output_old output_new ending → HaltsOn setup text bytes left grew noted (plan_left plan_new) source_new output_old output_new notes_old notes_new
+      by (inl on) = halted_by setup text bytes schedule on.0 ending is ends.0 on.1 on.2 e note
+      by (inr unread) = unread-status ending 0 unread.0 e (omega arith) (omega arith)
   halted_once setup text bytes (Err line) (Halted word) is never known e note = absurd never
   halted_once setup text bytes (Err line) Assembled is never known e note = absurd never
   halted_once setup text bytes (Err refused) (TurnsSpent made) is ends known e note = absurd (omega (arith, e))
@@ -123,7 +144,7 @@ module _ {S P K E : Type 0} (left : S → Option (List ℕ)) (plan_left : P → 
   part_written_by whole meaning NoMemory keeps ends = inl keeps
 
   -- all turns were made
-  spent_on : (setup : Setup) (text bytes : List ℕ) (schedule : Schedule) (made : ℕ) (booted : Result Booted Refusal) → schedule_told setup.plan text ≡ Ok schedule → PlanEnds setup.plan (plan_left plan_new) → boot_of setup bytes ≡ booted → Ends setup.turns schedule booted left grew source_new output_old output_new (TurnsSpent made)
+  spent_on : (setup : Setup) (text bytes : List ℕ) (schedule : Schedule) (made : ℕ) (booted : Result Booted Refusal) → schedule_told setup.plan text ≡ Ok schedule → PlanEnds setup.plan (plan_left plan_new) → IsBoot setup bytes booted → Ends setup.turns schedule booted left grew source_new output_old output_new (TurnsSpent made)
       → noted notes_old (spent_note made) notes_new → SpendsOn (Some (Once setup)) text bytes left grew noted (plan_left plan_new) source_new output_old output_new notes_old notes_new
   spent_on setup text bytes schedule made (Ok booted) is ended same runs note =
       record {
@@ -140,7 +161,11 @@ module _ {S P K E : Type 0} (left : S → Option (List ℕ)) (plan_left : P → 
 
   spent_once : (setup : Setup) (text bytes : List ℕ) (made : ℕ) (told : Result Schedule ℕ) → schedule_told setup.plan text ≡ told → EndsOnce setup told left grew (plan_left plan_new) source_old source_new output_old output_new (TurnsSpent made) → left source_old ≡ Some bytes
       → noted notes_old (spent_note made) notes_new → SpendsOn (Some (Once setup)) text bytes left grew noted (plan_left plan_new) source_new output_old output_new notes_old notes_new
-  spent_once setup text bytes made (Ok schedule) is ends known note = spent_on setup text bytes schedule made (boot_of setup bytes) is ends.0 refl (ends.1 bytes known) note
+  spent_once setup text bytes made (Ok schedule) is ends known note = by (ends.1 bytes known)
+    where
+      by : EndsOn setup schedule bytes left grew source_new output_old output_new (TurnsSpent made) → SpendsOn (Some (Once setup)) text bytes left grew noted (plan_left plan_new) source_new output_old output_new notes_old notes_new
+      by (inl on) = spent_on setup text bytes schedule made on.0 is ends.0 on.1 on.2 note
+      by (inr unread) = absurd unread.0
   spent_once setup text bytes made (Err line) is never known note = absurd never
 
   spent_by : (command : Option Command) (ending : Ending) → ByCommand command left plan_left grew read plan_read write source_old source_new plan_old plan_new output_old output_new ending → ending_status ending ≡ 9 → PutsNote noted (ending_note ending) notes_old notes_new
@@ -160,7 +185,7 @@ module _ {S P K E : Type 0} (left : S → Option (List ℕ)) (plan_left : P → 
   spent_by command NoMemory follows e note text bytes plan known = absurd (omega (arith, e))
 
   -- the machine is idle
-  idle_on : (setup : Setup) (text bytes : List ℕ) (schedule : Schedule) (made : ℕ) (booted : Result Booted Refusal) → schedule_told setup.plan text ≡ Ok schedule → PlanEnds setup.plan (plan_left plan_new) → boot_of setup bytes ≡ booted → Ends setup.turns schedule booted left grew source_new output_old output_new (Idle made)
+  idle_on : (setup : Setup) (text bytes : List ℕ) (schedule : Schedule) (made : ℕ) (booted : Result Booted Refusal) → schedule_told setup.plan text ≡ Ok schedule → PlanEnds setup.plan (plan_left plan_new) → IsBoot setup bytes booted → Ends setup.turns schedule booted left grew source_new output_old output_new (Idle made)
       → noted notes_old (idle_note made) notes_new → IdlesOn (Some (Once setup)) text bytes left grew noted (plan_left plan_new) source_new output_old output_new notes_old notes_new
   idle_on setup text bytes schedule made (Ok booted) is ended same runs note =
       record {
@@ -177,7 +202,11 @@ module _ {S P K E : Type 0} (left : S → Option (List ℕ)) (plan_left : P → 
 
   idle_once : (setup : Setup) (text bytes : List ℕ) (made : ℕ) (told : Result Schedule ℕ) → schedule_told setup.plan text ≡ told → EndsOnce setup told left grew (plan_left plan_new) source_old source_new output_old output_new (Idle made) → left source_old ≡ Some bytes
       → noted notes_old (idle_note made) notes_new → IdlesOn (Some (Once setup)) text bytes left grew noted (plan_left plan_new) source_new output_old output_new notes_old notes_new
-  idle_once setup text bytes made (Ok schedule) is ends known note = idle_on setup text bytes schedule made (boot_of setup bytes) is ends.0 refl (ends.1 bytes known) note
+  idle_once setup text bytes made (Ok schedule) is ends known note = by (ends.1 bytes known)
+    where
+      by : EndsOn setup schedule bytes left grew source_new output_old output_new (Idle made) → IdlesOn (Some (Once setup)) text bytes left grew noted (plan_left plan_new) source_new output_old output_new notes_old notes_new
+      by (inl on) = idle_on setup text bytes schedule made on.0 is ends.0 on.1 on.2 note
+      by (inr unread) = absurd unread.0
   idle_once setup text bytes made (Err line) is never known note = absurd never
 
   idle_by : (command : Option Command) (ending : Ending) → ByCommand command left plan_left grew read plan_read write source_old source_new plan_old plan_new output_old output_new ending → ending_status ending ≡ 10 → PutsNote noted (ending_note ending) notes_old notes_new
@@ -197,25 +226,37 @@ module _ {S P K E : Type 0} (left : S → Option (List ℕ)) (plan_left : P → 
   idle_by command NoMemory follows e note text bytes plan known = absurd (omega (arith, e))
 
   -- the plan or the input is refused
-  refused_on : (setup : Setup) (text bytes : List ℕ) (schedule : Schedule) (refusal : Refusal) (booted : Result Booted Refusal) → schedule_told setup.plan text ≡ Ok schedule → PlanEnds setup.plan (plan_left plan_new) → boot_of setup bytes ≡ booted → Ends setup.turns schedule booted left grew source_new output_old output_new (Refused refusal)
-      → noted notes_old (refusal_note refusal) notes_new → RefusesInput setup text bytes noted (plan_left plan_new) notes_old notes_new
+  refused_on : (setup : Setup) (text bytes : List ℕ) (schedule : Schedule) (refusal : own.Refusal) (booted : Result Booted Refusal) → schedule_told setup.plan text ≡ Ok schedule → PlanEnds setup.plan (plan_left plan_new) → IsBoot setup bytes booted → Ends setup.turns schedule booted left grew source_new output_old output_new (Refused refusal)
+      → noted notes_old (refusal_note (refusal_of refusal)) notes_new → RefusesInput setup text bytes noted (plan_left plan_new) notes_old notes_new
   refused_on setup text bytes schedule refusal (Ok booted) is ended same never note = absurd never
   refused_on setup text bytes schedule refusal (Err why) is ended same refuses note =
       record { schedule = schedule; refusal = why; plan_is = is; plan_ended = ended; boots = same; notes_grew = subst (λ told. noted notes_old (refusal_note told) notes_new) (sym refuses.0) note }
 
   refused_once : (setup : Setup) (text bytes : List ℕ) (told : Result Schedule ℕ) (ending : Ending) → schedule_told setup.plan text ≡ told → EndsOnce setup told left grew (plan_left plan_new) source_old source_new output_old output_new ending → left source_old ≡ Some bytes
       → ending_status ending ≡ 2 → PutsNote noted (ending_note ending) notes_old notes_new → RefusesPlan setup text noted notes_old notes_new ⊎ RefusesInput setup text bytes noted (plan_left plan_new) notes_old notes_new
-  refused_once setup text bytes (Ok schedule) (Refused refusal) is ends known e note = inr (refused_on setup text bytes schedule refusal (boot_of setup bytes) is ends.0 refl (ends.1 bytes known) note)
-  refused_once setup text bytes (Ok schedule) (NotAssembled kind line) is ends known e note = absurd (never (boot_of setup bytes) (ends.1 bytes known))
+  refused_once setup text bytes (Ok schedule) (Refused refusal) is ends known e note = inr (by (ends.1 bytes known))
+    where
+      by : EndsOn setup schedule bytes left grew source_new output_old output_new (Refused refusal) → RefusesInput setup text bytes noted (plan_left plan_new) notes_old notes_new
+      by (inl on) = refused_on setup text bytes schedule refusal on.0 is ends.0 on.1 on.2 note
+      by (inr unread) = absurd unread.0
+  refused_once setup text bytes (Ok schedule) (NotAssembled kind line) is ends known e note = absurd (by (ends.1 bytes known))
     where
       never : (booted : Result Booted Refusal) → Ends setup.turns schedule booted left grew source_new output_old output_new (NotAssembled kind line) → ⊥
       never (Ok booted) ends = ends
       never (Err refusal) ends = ends
-  refused_once setup text bytes (Ok schedule) (BadPlan line) is ends known e note = absurd (never (boot_of setup bytes) (ends.1 bytes known))
+
+      by : EndsOn setup schedule bytes left grew source_new output_old output_new (NotAssembled kind line) → ⊥
+      by (inl on) = never on.0 on.2
+      by (inr unread) = unread.0
+  refused_once setup text bytes (Ok schedule) (BadPlan line) is ends known e note = absurd (by (ends.1 bytes known))
     where
       never : (booted : Result Booted Refusal) → Ends setup.turns schedule booted left grew source_new output_old output_new (BadPlan line) → ⊥
       never (Ok booted) ends = ends
       never (Err refusal) ends = ends
+
+      by : EndsOn setup schedule bytes left grew source_new output_old output_new (BadPlan line) → ⊥
+      by (inl on) = never on.0 on.2
+      by (inr unread) = unread.0
   refused_once setup text bytes (Err refused) (BadPlan line) is ends known e note = inl (record { line = refused; plan_is = is; notes_grew = subst (λ told. noted notes_old (plan_note told) notes_new) (sym ends.0) note })
   refused_once setup text bytes (Err refused) (Refused refusal) is never known e note = absurd never
   refused_once setup text bytes (Err refused) (NotAssembled kind line) is never known e note = absurd never
@@ -400,8 +441,28 @@ module _ {S P K E : Type 0} (left : S → Option (List ℕ)) (plan_left : P → 
     caused_by : (setup : Setup) → command ≡ Some (Once setup) → IsCaused (read ⊎ FromPlan setup.plan plan_read) write answers.ending
     caused_by setup given = (by_command (Some (Once setup)) given).0
 
+    -- the ending of what the input boots, or it wasn't read
+    on-booted : OneOutcome → (setup : Setup) (bytes : List ℕ) (schedule : Schedule) (found : Result Booted Refusal) → IsBoot setup bytes found → EndsOn setup schedule bytes left grew source_new output_old output_new answers.ending
+        → Ends setup.turns schedule found left grew source_new output_old output_new answers.ending ⊎ (IsUnread (Unit {0}) answers.ending × (output_new ≡ output_old))
+    on-booted one setup bytes schedule found boots (inl on) = inl (subst (λ found. Ends setup.turns schedule found left grew source_new output_old output_new answers.ending) (one-boot setup one bytes on.0 found on.1 boots) on.2)
+    on-booted one setup bytes schedule found boots (inr unread) = inr unread
+
+    -- where nothing was read, only a failed call or want of memory is told
+    unread-cause : {A : Type 0} (cause : Type 0) (ending : Ending) → IsUnread (Unit {0}) ending → IsCaused cause write ending → ¬ cause → ending_status ending ≢ 6 → A
+    unread-cause cause ReadFault unread caused no_read enough = absurd (no_read caused)
+    unread-cause cause NoMemory unread caused no_read enough = absurd (enough refl)
+    unread-cause cause WriteFault unread caused no_read enough = absurd unread
+    unread-cause cause (Halted word) unread caused no_read enough = absurd unread
+    unread-cause cause (TurnsSpent made) unread caused no_read enough = absurd unread
+    unread-cause cause (Idle made) unread caused no_read enough = absurd unread
+    unread-cause cause Assembled unread caused no_read enough = absurd unread
+    unread-cause cause Usage unread caused no_read enough = absurd unread
+    unread-cause cause (Refused refusal) unread caused no_read enough = absurd unread
+    unread-cause cause (NotAssembled kind line) unread caused no_read enough = absurd unread
+    unread-cause cause (BadPlan line) unread caused no_read enough = absurd unread
+
     -- under a schedule that is told
-    ends_on : (setup : Setup) (text bytes : List ℕ) (schedule : Schedule) → command ≡ Some (Once setup) → IsPlan setup.plan (plan_left plan_old) text → schedule_told setup.plan text ≡ Ok schedule → left source_old ≡ Some bytes → Ends setup.turns schedule (boot_of setup bytes) left grew source_new output_old output_new answers.ending
+    ends_on : (setup : Setup) (text bytes : List ℕ) (schedule : Schedule) → command ≡ Some (Once setup) → IsPlan setup.plan (plan_left plan_old) text → schedule_told setup.plan text ≡ Ok schedule → left source_old ≡ Some bytes → EndsOn setup schedule bytes left grew source_new output_old output_new answers.ending
     ends_on setup text bytes schedule given plan is known = (subst (λ told. EndsOnce setup told left grew (plan_left plan_new) source_old source_new output_old output_new answers.ending) is (once_on setup text given plan)).1 bytes known
 
     -- where the plan is refused
@@ -413,10 +474,13 @@ module _ {S P K E : Type 0} (left : S → Option (List ℕ)) (plan_left : P → 
         let is = status-is noted rose answers.ending notes_old notes_new status 0 answers.told e (omega arith) (omega arith) in
         halted_once setup text bytes (schedule_told setup.plan text) answers.ending refl (once_on setup text given plan) known is.0 is.1
 
-    pub part-told : ((a b : K) (x : List ℕ) → grew a x b → GrewByPrefix grew a x b) → (setup : Setup) (text bytes : List ℕ) (schedule : Schedule) (booted : Booted) → command ≡ Some (Once setup) → IsPlan setup.plan (plan_left plan_old) text → schedule_told setup.plan text ≡ Ok schedule → left source_old ≡ Some bytes → boot_of setup bytes ≡ Ok booted
+    pub part-told : OneOutcome → ((s : K) (x : List ℕ) → GrewByPrefix grew s x s) → ((a b : K) (x : List ℕ) → grew a x b → GrewByPrefix grew a x b) → (setup : Setup) (text bytes : List ℕ) (schedule : Schedule) (booted : Booted) → command ≡ Some (Once setup) → IsPlan setup.plan (plan_left plan_old) text → schedule_told setup.plan text ≡ Ok schedule → left source_old ≡ Some bytes → IsBoot setup bytes (Ok booted)
         → GrewByPrefix grew output_old (run_of setup.turns schedule booted).put output_new
-    part-told whole setup text bytes schedule booted given plan is known boots =
-        part_by whole setup.turns schedule booted answers.ending (subst (λ found. Ends setup.turns schedule found left grew source_new output_old output_new answers.ending) boots (ends_on setup text bytes schedule given plan is known))
+    part-told one nothing whole setup text bytes schedule booted given plan is known boots = by (on-booted one setup bytes schedule (Ok booted) boots (ends_on setup text bytes schedule given plan is known))
+      where
+        by : Ends setup.turns schedule (Ok booted) left grew source_new output_old output_new answers.ending ⊎ (IsUnread (Unit {0}) answers.ending × (output_new ≡ output_old)) → GrewByPrefix grew output_old (run_of setup.turns schedule booted).put output_new
+        by (inl runs) = part_by whole setup.turns schedule booted answers.ending runs
+        by (inr unread) = subst (λ output. GrewByPrefix grew output_old (run_of setup.turns schedule booted).put output) (sym unread.1) (nothing output_old (run_of setup.turns schedule booted).put)
 
     -- nothing else was looked at where the plan is refused
     untouched_by : (line : ℕ) (ending : Ending) → RefusesPlanAs line source_old source_new output_old output_new ending → (source_new ≡ source_old) × (output_new ≡ output_old)
@@ -449,12 +513,16 @@ module _ {S P K E : Type 0} (left : S → Option (List ℕ)) (plan_left : P → 
     stays_by why (BadPlan line) never = absurd never
     stays_by why WriteFault never = absurd never
 
-    stays_once : (setup : Setup) (bytes : List ℕ) (refusal : Refusal) (told : Result Schedule ℕ) → EndsOnce setup told left grew (plan_left plan_new) source_old source_new output_old output_new answers.ending → left source_old ≡ Some bytes → boot_of setup bytes ≡ Err refusal → output_new ≡ output_old
-    stays_once setup bytes refusal (Ok schedule) ends known boots = stays_by refusal answers.ending (subst (λ found. Ends setup.turns schedule found left grew source_new output_old output_new answers.ending) boots (ends.1 bytes known))
-    stays_once setup bytes refusal (Err line) ends known boots = (untouched_by line answers.ending ends).1
+    stays_once : OneOutcome → (setup : Setup) (bytes : List ℕ) (refusal : Refusal) (told : Result Schedule ℕ) → EndsOnce setup told left grew (plan_left plan_new) source_old source_new output_old output_new answers.ending → left source_old ≡ Some bytes → IsBoot setup bytes (Err refusal) → output_new ≡ output_old
+    stays_once one setup bytes refusal (Ok schedule) ends known boots = by (on-booted one setup bytes schedule (Err refusal) boots (ends.1 bytes known))
+      where
+        by : Ends setup.turns schedule (Err refusal) left grew source_new output_old output_new answers.ending ⊎ (IsUnread (Unit {0}) answers.ending × (output_new ≡ output_old)) → output_new ≡ output_old
+        by (inl refuses) = stays_by refusal answers.ending refuses
+        by (inr unread) = unread.1
+    stays_once one setup bytes refusal (Err line) ends known boots = (untouched_by line answers.ending ends).1
 
-    pub refused-output-told : (setup : Setup) (text bytes : List ℕ) (refusal : Refusal) → command ≡ Some (Once setup) → IsPlan setup.plan (plan_left plan_old) text → left source_old ≡ Some bytes → boot_of setup bytes ≡ Err refusal → output_new ≡ output_old
-    refused-output-told setup text bytes refusal given plan known boots = stays_once setup bytes refusal (schedule_told setup.plan text) (once_on setup text given plan) known boots
+    pub refused-output-told : OneOutcome → (setup : Setup) (text bytes : List ℕ) (refusal : Refusal) → command ≡ Some (Once setup) → IsPlan setup.plan (plan_left plan_old) text → left source_old ≡ Some bytes → IsBoot setup bytes (Err refusal) → output_new ≡ output_old
+    refused-output-told one setup text bytes refusal given plan known boots = stays_once one setup bytes refusal (schedule_told setup.plan text) (once_on setup text given plan) known boots
 
     -- without a fault and with memory, the status is the ending's
     status_by : ¬ rose → status ≢ 6 → status ≡ ending_status answers.ending
@@ -490,12 +558,15 @@ module _ {S P K E : Type 0} (left : S → Option (List ℕ)) (plan_left : P → 
     neither setup no_read no_plan (inl input) = no_read input
     neither setup no_read no_plan (inr plan) = no_plan plan
 
-    pub complete-told : (setup : Setup) (text bytes : List ℕ) (schedule : Schedule) (booted : Booted) → command ≡ Some (Once setup) → IsPlan setup.plan (plan_left plan_old) text → schedule_told setup.plan text ≡ Ok schedule → left source_old ≡ Some bytes → boot_of setup bytes ≡ Ok booted
+    pub complete-told : OneOutcome → (setup : Setup) (text bytes : List ℕ) (schedule : Schedule) (booted : Booted) → command ≡ Some (Once setup) → IsPlan setup.plan (plan_left plan_old) text → schedule_told setup.plan text ≡ Ok schedule → left source_old ≡ Some bytes → IsBoot setup bytes (Ok booted)
         → ¬ read → ¬ FromPlan setup.plan plan_read → ¬ write → ¬ rose → status ≢ 6 → status ≡ stop_status (run_of setup.turns schedule booted).stop
-    complete-told setup text bytes schedule booted given plan is known boots no_read no_plan no_write quiet enough =
+    complete-told one setup text bytes schedule booted given plan is known boots no_read no_plan no_write quiet enough =
         let same : status ≡ ending_status answers.ending = status_by quiet enough in
-        same ∙ complete_by setup.turns schedule booted (read ⊎ FromPlan setup.plan plan_read) answers.ending (subst (λ found. Ends setup.turns schedule found left grew source_new output_old output_new answers.ending) boots (ends_on setup text bytes schedule given plan is known))
-        (caused_by setup given) (neither setup no_read no_plan) no_write (λ six. enough (same ∙ six))
+        same ∙ by (λ six. enough (same ∙ six)) (on-booted one setup bytes schedule (Ok booted) boots (ends_on setup text bytes schedule given plan is known))
+      where
+        by : ending_status answers.ending ≢ 6 → Ends setup.turns schedule (Ok booted) left grew source_new output_old output_new answers.ending ⊎ (IsUnread (Unit {0}) answers.ending × (output_new ≡ output_old)) → ending_status answers.ending ≡ stop_status (run_of setup.turns schedule booted).stop
+        by some (inl runs) = complete_by setup.turns schedule booted (read ⊎ FromPlan setup.plan plan_read) answers.ending runs (caused_by setup given) (neither setup no_read no_plan) no_write some
+        by some (inr unread) = unread-cause (read ⊎ FromPlan setup.plan plan_read) answers.ending unread.0 (caused_by setup given) (neither setup no_read no_plan) some
 
     refuses_by : (refusal : Refusal) (cause : Type 0) (ending : Ending) → RefusesAs refusal output_old output_new ending → IsCaused cause write ending → ¬ cause → ending_status ending ≢ 6 → ending_status ending ≡ 2
     refuses_by refusal cause (Refused told) refuses caused no_read enough = refl
@@ -523,16 +594,19 @@ module _ {S P K E : Type 0} (left : S → Option (List ℕ)) (plan_left : P → 
     plan_by refused cause (NotAssembled kind line) refuses caused no_read enough = absurd refuses
     plan_by refused cause WriteFault refuses caused no_read enough = absurd refuses
 
-    once_by : (setup : Setup) (bytes : List ℕ) (refusal : Refusal) (told : Result Schedule ℕ) → EndsOnce setup told left grew (plan_left plan_new) source_old source_new output_old output_new answers.ending → left source_old ≡ Some bytes → boot_of setup bytes ≡ Err refusal → IsCaused (read ⊎ FromPlan setup.plan plan_read) write answers.ending
+    once_by : OneOutcome → (setup : Setup) (bytes : List ℕ) (refusal : Refusal) (told : Result Schedule ℕ) → EndsOnce setup told left grew (plan_left plan_new) source_old source_new output_old output_new answers.ending → left source_old ≡ Some bytes → IsBoot setup bytes (Err refusal) → IsCaused (read ⊎ FromPlan setup.plan plan_read) write answers.ending
         → ¬ (read ⊎ FromPlan setup.plan plan_read) → ending_status answers.ending ≢ 6 → ending_status answers.ending ≡ 2
-    once_by setup bytes refusal (Ok schedule) ends known boots caused no_read enough =
-        refuses_by refusal (read ⊎ FromPlan setup.plan plan_read) answers.ending (subst (λ found. Ends setup.turns schedule found left grew source_new output_old output_new answers.ending) boots (ends.1 bytes known)) caused no_read enough
-    once_by setup bytes refusal (Err line) ends known boots caused no_read enough = plan_by line (read ⊎ FromPlan setup.plan plan_read) answers.ending ends caused no_read enough
+    once_by one setup bytes refusal (Ok schedule) ends known boots caused no_read enough = by (on-booted one setup bytes schedule (Err refusal) boots (ends.1 bytes known))
+      where
+        by : Ends setup.turns schedule (Err refusal) left grew source_new output_old output_new answers.ending ⊎ (IsUnread (Unit {0}) answers.ending × (output_new ≡ output_old)) → ending_status answers.ending ≡ 2
+        by (inl refuses) = refuses_by refusal (read ⊎ FromPlan setup.plan plan_read) answers.ending refuses caused no_read enough
+        by (inr unread) = unread-cause (read ⊎ FromPlan setup.plan plan_read) answers.ending unread.0 caused no_read enough
+    once_by one setup bytes refusal (Err line) ends known boots caused no_read enough = plan_by line (read ⊎ FromPlan setup.plan plan_read) answers.ending ends caused no_read enough
 
-    pub refuses-told : (setup : Setup) (text bytes : List ℕ) (refusal : Refusal) → command ≡ Some (Once setup) → IsPlan setup.plan (plan_left plan_old) text → left source_old ≡ Some bytes → boot_of setup bytes ≡ Err refusal → ¬ read → ¬ FromPlan setup.plan plan_read → ¬ rose → status ≢ 6 → status ≡ 2
-    refuses-told setup text bytes refusal given plan known boots no_read no_plan quiet enough =
+    pub refuses-told : OneOutcome → (setup : Setup) (text bytes : List ℕ) (refusal : Refusal) → command ≡ Some (Once setup) → IsPlan setup.plan (plan_left plan_old) text → left source_old ≡ Some bytes → IsBoot setup bytes (Err refusal) → ¬ read → ¬ FromPlan setup.plan plan_read → ¬ rose → status ≢ 6 → status ≡ 2
+    refuses-told one setup text bytes refusal given plan known boots no_read no_plan quiet enough =
         let same : status ≡ ending_status answers.ending = status_by quiet enough in
-        same ∙ once_by setup bytes refusal (schedule_told setup.plan text) (once_on setup text given plan) known boots (caused_by setup given) (neither setup no_read no_plan) (λ six. enough (same ∙ six))
+        same ∙ once_by one setup bytes refusal (schedule_told setup.plan text) (once_on setup text given plan) known boots (caused_by setup given) (neither setup no_read no_plan) (λ six. enough (same ∙ six))
 
     pub refuses_plan-told : (setup : Setup) (text : List ℕ) (line : ℕ) → command ≡ Some (Once setup) → IsPlan setup.plan (plan_left plan_old) text → schedule_told setup.plan text ≡ Err line → ¬ read → ¬ FromPlan setup.plan plan_read → ¬ rose → status ≢ 6 → status ≡ 2
     refuses_plan-told setup text line given plan is no_read no_plan quiet enough =

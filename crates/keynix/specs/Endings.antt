@@ -1,14 +1,10 @@
 -- Endings in the words of the definitions.
-use Rattle.std.specs.Prelude.{◌≡◌, ℕ, ◌<◌, ◌++◌, true, false, List, [], length, Option, Some, None, Result, Ok, Err, Vec, if◌then◌else◌}
-use Rattle.std.specs.Global.{Global}
-use Rattle.flat_unix.specs.declared.flat.Flat.{Flat}
-use Rattle.flat_unix.specs.FlatView.{unix_of}
+use Rattle.std.specs.Prelude.{◌≡◌, ◌⊎◌, ℕ, ◌++◌, List, [], Option, Some, None, Result, Ok, Err}
 use Rattle.flat_unix.specs.declared.flat.FlatFault.{FlatFault}
 use Rattle.flat_unix.specs.declared.flat.FlatFault.TheVariants as flat
 use Rattle.kn_io.specs.Sink.{GrewByPrefix}
 use Rattle.plan.specs.Plans.{slots_of, spans_of}
 use Rattle.plan.specs.declared.span.Span.{Span}
-use Rattle.unix_model.specs.Boot as model
 use Rattle.unix_model.specs.Machine as machine
 use Rattle.unix_model.specs.Schedule as schedules
 use Rattle.unix_model.specs.State.{Unix}
@@ -17,38 +13,12 @@ use Rattle.rv_asm.specs.Files.{IsFile}
 use Rattle.rv_asm.specs.Programs as asm
 use Rattle.keynix.specs.declared.ending.Ending.{Ending}
 use Rattle.keynix.specs.declared.ending.Ending.TheVariants.{Halted, TurnsSpent, Idle, Assembled, Usage, Refused, NotAssembled, BadPlan, ReadFault, WriteFault, NoMemory}
-use Rattle.keynix.specs.declared.ending.Refusal.{Refusal}
-use Rattle.keynix.specs.declared.ending.Refusal.TheVariants.{NotBuilt, NoRoom, Elf}
+use Rattle.keynix.specs.declared.ending.Refusal.TheVariants.{NoRoom, Elf}
 use Rattle.keynix.specs.declared.schedule.Schedule as own
 use Rattle.keynix.specs.Schedules.{schedule_of}
+use Rattle.flat_bundle.specs.Booting.{Booted, Refusal}
+use Rattle.keynix.specs.Inputs.{IsBoot, refusal_of}
 use Rattle.keynix.specs.Words.{Plan, Round, Given, Setup}
-
--- why an input isn't booted, as it is told: for the file or for the program's memory there is no room, or the file is no
--- program. Where there is room for the file, there is a program
-abbrev pub told_refusal : model.BootRefusal → Refusal
-told_refusal (model.NoRoomFor entry) = NoRoom
-told_refusal model.NoRoomToStart = NoRoom
-told_refusal (model.BadProgram fault) = Elf fault
-told_refusal model.NoProgram = NotBuilt
-
-abbrev pub told_boot : Result Unix model.BootRefusal → Result Unix Refusal
-told_boot (Ok unix) = Ok unix
-told_boot (Err refusal) = Err (told_refusal refusal)
-
--- what an input boots: a machine, and the console input that it finds
-pub record Booted : Type 0 where
-  pub unix : Unix
-  pub input : List ℕ
-
--- a file is the whole input, so nothing is left for the console
-abbrev pub with_file : Result Unix Refusal → Result Booted Refusal
-with_file (Ok unix) = Ok (record { unix = unix; input = [] })
-with_file (Err refusal) = Err refusal
-
--- what an input boots with so many pages and this quantum: it has to be an ELF file
-unfoldable pub boot_of : Setup → List ℕ → Result Booted Refusal
-boot_of setup bytes =
-    if model.is_elf bytes then with_file (told_boot (model.booted_file setup.pages setup.quantum bytes)) else Err NotBuilt
 
 -- the schedule that a plan's spans give
 abbrev pub given_by : Result (List Span) ℕ → Result schedules.Schedule ℕ
@@ -90,7 +60,7 @@ abbrev pub fault_ending : FlatFault → Ending
 fault_ending flat.ReadFault = ReadFault
 fault_ending flat.WriteFault = WriteFault
 fault_ending flat.NoMemory = NoMemory
-fault_ending flat.NoRoom = Refused NoRoom
+fault_ending flat.NoRoom = Refused (NoRoom 0)
 fault_ending (flat.Elf fault) = Refused (Elf fault)
 
 -- the ending of a run that ended so, after so many turns
@@ -148,7 +118,7 @@ RunsOn whole input left grew source old new (BadPlan line) = ⊥
 
 -- the input is refused so, and nothing was put
 abbrev pub RefusesAs : {K : Type 0} → Refusal → K → K → Ending → Type 0
-RefusesAs refusal old new (Refused told) = (refusal ≡ told) × (new ≡ old)
+RefusesAs refusal old new (Refused told) = (refusal ≡ refusal_of told) × (new ≡ old)
 RefusesAs refusal old new ReadFault = new ≡ old
 RefusesAs refusal old new NoMemory = new ≡ old
 RefusesAs refusal old new WriteFault = ⊥
@@ -164,6 +134,27 @@ RefusesAs refusal old new (BadPlan line) = ⊥
 abbrev pub Ends : {S K : Type 0} → ℕ → schedules.Schedule → Result Booted Refusal → (S → Option (List ℕ)) → (K → List ℕ → K → Type 0) → S → K → K → Ending → Type 0
 Ends turns schedule (Ok booted) left grew source old new ending = RunsOn (run_of turns schedule booted) booted.input left grew source old new ending
 Ends turns schedule (Err refusal) left grew source old new ending = RefusesAs refusal old new ending
+
+-- why a source, or what it holds, wasn't read to its end
+abbrev pub IsUnread : Type 0 → Ending → Type 0
+IsUnread read ReadFault = read
+IsUnread read NoMemory = Unit {0}
+IsUnread read WriteFault = ⊥
+IsUnread read (Halted word) = ⊥
+IsUnread read (TurnsSpent turns) = ⊥
+IsUnread read (Idle turns) = ⊥
+IsUnread read Assembled = ⊥
+IsUnread read Usage = ⊥
+IsUnread read (Refused refusal) = ⊥
+IsUnread read (NotAssembled kind line) = ⊥
+IsUnread read (BadPlan line) = ⊥
+
+-- The ending of `once` under a schedule by the input: it boots, or is refused, and the ending follows from that; or it
+-- wasn't read, and nothing was put.
+abbrev pub EndsOn : {S K : Type 0} → Setup → schedules.Schedule → List ℕ → (S → Option (List ℕ)) → (K → List ℕ → K → Type 0) → S → K → K → Ending → Type 0
+EndsOn setup schedule bytes left grew source old new ending =
+    ((found : Result Booted Refusal) × IsBoot setup bytes found × Ends setup.turns schedule found left grew source old new ending)
+    ⊎ (IsUnread (Unit {0}) ending × (new ≡ old))
 
 -- the plan is refused at a line: the input is as before, and nothing was put
 abbrev pub RefusesPlanAs : {S K : Type 0} → ℕ → (source_old source_new : S) (old new : K) → Ending → Type 0
@@ -197,7 +188,7 @@ EndsPlan plan left (NotAssembled kind line) = Unit {0}
 abbrev pub EndsOnce : {S K : Type 0} → Setup → Result schedules.Schedule ℕ → (S → Option (List ℕ)) → (K → List ℕ → K → Type 0) → Option (List ℕ) → (source_old source_new : S) (old new : K) → Ending → Type 0
 EndsOnce setup (Err line) left grew plan_left source_old source_new old new ending = RefusesPlanAs line source_old source_new old new ending
 EndsOnce setup (Ok schedule) left grew plan_left source_old source_new old new ending =
-    EndsPlan setup.plan plan_left ending × ((bytes : List ℕ) → left source_old ≡ Some bytes → Ends setup.turns schedule (boot_of setup bytes) left grew source_new old new ending)
+    EndsPlan setup.plan plan_left ending × ((bytes : List ℕ) → left source_old ≡ Some bytes → EndsOn setup schedule bytes left grew source_new old new ending)
 
 -- the schedule that was read, or why none was
 abbrev pub ReadsPlan : Plan → Result schedules.Schedule ℕ → Option (List ℕ) → Result own.Schedule Ending → Type 0
@@ -213,52 +204,6 @@ ReadsPlan plan told left (Err Assembled) = ⊥
 ReadsPlan plan told left (Err Usage) = ⊥
 ReadsPlan plan told left (Err (Refused refusal)) = ⊥
 ReadsPlan plan told left (Err (NotAssembled kind line)) = ⊥
-
--- the file that was read, or why none was
-abbrev pub Reads : List ℕ → Option (List ℕ) → Result (Vec ℕ Global) Ending → Type 0
-Reads bytes left (Ok file) = (file.items ≡ bytes) × (model.is_elf bytes ≡ true) × (left ≡ Some [])
-Reads bytes left (Err (Refused NotBuilt)) = model.is_elf bytes ≡ false
-Reads bytes left (Err (Refused NoRoom)) = (model.is_elf bytes ≡ true) × (4194304 < length bytes)
-Reads bytes left (Err (Refused (Elf fault))) = ⊥
-Reads bytes left (Err ReadFault) = Unit {0}
-Reads bytes left (Err NoMemory) = Unit {0}
-Reads bytes left (Err WriteFault) = ⊥
-Reads bytes left (Err (Halted word)) = ⊥
-Reads bytes left (Err (TurnsSpent turns)) = ⊥
-Reads bytes left (Err (Idle turns)) = ⊥
-Reads bytes left (Err Assembled) = ⊥
-Reads bytes left (Err Usage) = ⊥
-Reads bytes left (Err (NotAssembled kind line)) = ⊥
-Reads bytes left (Err (BadPlan line)) = ⊥
-
--- the machine that was booted, or why none was
-abbrev pub Boots : Result Booted Refusal → Result Flat Ending → Type 0
-Boots booted (Ok flat) = booted ≡ Ok (record { unix = unix_of flat; input = [] })
-Boots booted (Err (Refused refusal)) = booted ≡ Err refusal
-Boots booted (Err NoMemory) = Unit {0}
-Boots booted (Err ReadFault) = ⊥
-Boots booted (Err WriteFault) = ⊥
-Boots booted (Err (Halted word)) = ⊥
-Boots booted (Err (TurnsSpent turns)) = ⊥
-Boots booted (Err (Idle turns)) = ⊥
-Boots booted (Err Assembled) = ⊥
-Boots booted (Err Usage) = ⊥
-Boots booted (Err (NotAssembled kind line)) = ⊥
-Boots booted (Err (BadPlan line)) = ⊥
-
--- why a source wasn't read
-abbrev pub IsUnread : Type 0 → Ending → Type 0
-IsUnread read ReadFault = read
-IsUnread read NoMemory = Unit {0}
-IsUnread read WriteFault = ⊥
-IsUnread read (Halted word) = ⊥
-IsUnread read (TurnsSpent turns) = ⊥
-IsUnread read (Idle turns) = ⊥
-IsUnread read Assembled = ⊥
-IsUnread read Usage = ⊥
-IsUnread read (Refused refusal) = ⊥
-IsUnread read (NotAssembled kind line) = ⊥
-IsUnread read (BadPlan line) = ⊥
 
 -- the file of a source was written: the source means a program, the output got exactly the bytes of its file, and
 -- nothing is left of the input

@@ -3,6 +3,7 @@ pub mod WordsView
 pub mod Schedules
 pub mod Rows
 pub mod Runs
+pub mod Inputs
 pub mod Endings
 pub mod Telling
 pub mod Promises

@@ -8,15 +8,16 @@ use Rattle.unix_model.specs.Schedule.{Schedule}
 use Rattle.keynix.specs.Words.{Command, Once, Asm, Setup}
 use Rattle.keynix.specs.declared.ending.Ending.{Ending}
 use Rattle.keynix.specs.declared.ending.Ending.TheVariants.{Usage}
-use Rattle.keynix.specs.declared.ending.Refusal.{Refusal}
-use Rattle.keynix.specs.Endings.{Booted, EndsAssembly, EndsOnce, FromPlan, IsCaused, IsPlan, IsSpent, KeepsOutput, KeepsPlan, PlanEnds, RunsWhole, boot_of, run_of, schedule_told}
+use Rattle.flat_bundle.specs.Booting.{Booted, Refusal}
+use Rattle.keynix.specs.Inputs.{IsBoot}
+use Rattle.keynix.specs.Endings.{EndsAssembly, EndsOnce, FromPlan, IsCaused, IsPlan, IsSpent, KeepsOutput, KeepsPlan, PlanEnds, RunsWhole, run_of, schedule_told}
 use Rattle.keynix.specs.Telling.{Tells, idle_note, plan_note, refusal_note, source_note}
 
 -- What `once` runs: the plan gives a schedule, and was read to its end where it was asked for; and the input boots.
 pub record Runs (setup : Setup) (text bytes : List ℕ) (plan_left : Option (List ℕ)) (schedule : Schedule) (booted : Booted) : Type 0 where
   pub plan_is : schedule_told setup.plan text ≡ Ok schedule
   pub plan_ended : PlanEnds setup.plan plan_left
-  pub boots : boot_of setup bytes ≡ Ok booted
+  pub boots : IsBoot setup bytes (Ok booted)
 
 -- The machine of the input halted: the output got the bytes that the run puts, the notes the note of its wait word, and
 -- the input has left what the run leaves.
@@ -64,7 +65,7 @@ pub record RefusesInput {E : Type 0} (setup : Setup) (text bytes : List ℕ) (no
   pub refusal : Refusal
   pub plan_is : schedule_told setup.plan text ≡ Ok schedule
   pub plan_ended : PlanEnds setup.plan plan_left
-  pub boots : boot_of setup bytes ≡ Err refusal
+  pub boots : IsBoot setup bytes (Err refusal)
   pub notes_grew : noted notes_old (refusal_note refusal) notes_new
 
 -- The source is refused: the notes got the note of why and of the line.

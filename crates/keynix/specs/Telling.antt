@@ -11,8 +11,10 @@ use Rattle.rv_asm.specs.declared.fault.AsmKind.TheVariants.{Syntax, UnknownLabel
 use Rattle.rv_asm.specs.Programs as asm
 use Rattle.keynix.specs.declared.ending.Ending.{Ending}
 use Rattle.keynix.specs.declared.ending.Ending.TheVariants.{Halted, TurnsSpent, Idle, Assembled, Usage, Refused, NotAssembled, BadPlan, ReadFault, WriteFault, NoMemory}
-use Rattle.keynix.specs.declared.ending.Refusal.{Refusal}
-use Rattle.keynix.specs.declared.ending.Refusal.TheVariants as refusal
+use Rattle.bundle.specs.declared.fault.BundleKind.{BundleKind}
+use Rattle.bundle.specs.declared.fault.BundleKind.TheVariants as bundle
+use Rattle.flat_bundle.specs.Booting.{Refusal, At, NoRoom, BadProgram}
+use Rattle.keynix.specs.Inputs.{refusal_of}
 
 -- the name of the kind of a refused ELF file
 abbrev pub elf_kind : ElfFault → List ℕ
@@ -24,15 +26,32 @@ elf_kind BadHeader = codes "BadHeader"
 elf_kind BadSegment = codes "BadSegment"
 elf_kind TooMany = codes "TooMany"
 
--- the name of the kind of an input that isn't booted
-abbrev pub kind : Refusal → List ℕ
-kind refusal.NotBuilt = codes "NotBuilt"
-kind refusal.NoRoom = codes "NoRoom"
-kind (refusal.Elf fault) = elf_kind fault
+-- the name of the kind of a refused bundle
+abbrev pub bundle_kind : BundleKind → List ℕ
+bundle_kind bundle.Syntax = codes "Syntax"
+bundle_kind bundle.BadPath = codes "BadPath"
+bundle_kind bundle.Twice = codes "Twice"
+bundle_kind bundle.NoParent = codes "NoParent"
+bundle_kind bundle.TooLong = codes "TooLong"
+bundle_kind bundle.BadAsm = codes "BadAsm"
+bundle_kind bundle.BadHex = codes "BadHex"
+bundle_kind bundle.NoInit = codes "NoInit"
 
--- the note of an input that isn't booted; its line is 0
+-- the name of the kind of an input that isn't booted
+abbrev pub kind_name : Refusal → List ℕ
+kind_name (At kind line) = bundle_kind kind
+kind_name (NoRoom line) = codes "NoRoom"
+kind_name (BadProgram fault) = elf_kind fault
+
+-- the line that is told of it: a bundle's, and 0 where no line is to blame
+abbrev pub line_told : Refusal → ℕ
+line_told (At kind line) = line
+line_told (NoRoom line) = line
+line_told (BadProgram fault) = 0
+
+-- the note of an input that isn't booted
 unfoldable pub refusal_note : Refusal → List ℕ
-refusal_note refusal = codes "bad input " ++ kind refusal ++ codes " 0\n"
+refusal_note refusal = codes "bad input " ++ kind_name refusal ++ codes " " ++ decimal (line_told refusal) ++ codes "\n"
 
 -- the name of the kind of a refused source
 abbrev pub source_kind : AsmKind → List ℕ
@@ -73,7 +92,7 @@ ending_note (TurnsSpent turns) = Some (spent_note turns)
 ending_note (Idle turns) = Some (idle_note turns)
 ending_note Assembled = None
 ending_note Usage = Some usage_note
-ending_note (Refused refusal) = Some (refusal_note refusal)
+ending_note (Refused refusal) = Some (refusal_note (refusal_of refusal))
 ending_note (NotAssembled kind line) = Some (source_note (record { kind = kind; line = line }))
 ending_note (BadPlan line) = Some (plan_note line)
 ending_note ReadFault = Some read_fault_note
@@ -100,7 +119,7 @@ TakesMemory (TurnsSpent turns) = Unit {0}
 TakesMemory (Idle turns) = Unit {0}
 TakesMemory Assembled = ⊥
 TakesMemory Usage = ⊥
-TakesMemory (Refused refusal) = ⊥
+TakesMemory (Refused refusal) = Unit {0}
 TakesMemory (NotAssembled kind line) = Unit {0}
 TakesMemory (BadPlan line) = Unit {0}
 TakesMemory ReadFault = ⊥

@@ -1,16 +1,17 @@
 //! How a command ended.
 
+use bundle::BundleKind;
 use elf_read::ElfFault;
 use rv_asm::AsmKind;
 
 /// Why an input isn't booted.
 #[derive(Clone, Copy, Debug, PartialEq, Eq)]
 pub enum Refusal {
-    /// It is no ELF file, and nothing else can be booted yet.
-    NotBuilt,
-    /// The machine has no room for it.
-    NoRoom,
-    /// It is an ELF file that this machine doesn't run.
+    /// A line of the bundle is refused. The first is 1.
+    At { kind: BundleKind, line: u32 },
+    /// The machine has no room for what a line of the bundle gives; on line 0: for an ELF file, or for the memory of `/init`.
+    NoRoom { line: u32 },
+    /// `/init`, or the ELF file, is no program that this machine runs.
     Elf(ElfFault),
 }
 

@@ -4,9 +4,11 @@ ghost use Rattle.std.specs.Prelude.{◌≡◌, ◌≤◌, Some, IfOk, string_byt
 ghost use Rattle.kn_io.specs.Faults.{Rose};
 ghost use Rattle.kn_io.specs.Sink.{GrewByPrefix};
 ghost use Rattle.unix_model.specs.Notes.{halted_note, spent_note};
-ghost use Rattle.keynix.specs.Telling.{Tells, TakesMemory, ending_note, ending_status, idle_note, plan_note, refusal_note, source_kind, source_note};
+ghost use Rattle.keynix.specs.Inputs.{refusal_of};
+ghost use Rattle.keynix.specs.Telling.{Tells, TakesMemory, bundle_kind, elf_kind, ending_note, ending_status, idle_note, kind_name, line_told, plan_note, refusal_note, source_kind, source_note};
 
 use crate::ending::{Ending, Refusal};
+use bundle::BundleKind;
 use elf_read::ElfFault;
 use kn_io::{Failed, Sink};
 use rv_asm::AsmKind;
@@ -62,22 +64,66 @@ fn idle(alloc: Global, turns: u64) -> Result<String, AllocError>
     format!(in alloc; "idle {turns}\n")
 }
 
-/// The note of an input that isn't booted.
-#[tactic(auto, unfolding(crate::specs::Telling::refusal_note))]
-fn refused(refusal: Refusal) -> &'static [u8]
-    ensures { result.now ≡ refusal_note refusal }
+/// The name of the kind of a refused ELF file.
+fn elf_name(fault: ElfFault) -> &'static str
+    ensures { result.now ≡ elf_kind fault }
+{
+    match fault {
+        ElfFault::Short => "Short",
+        ElfFault::NotElf => "NotElf",
+        ElfFault::NotRv32 => "NotRv32",
+        ElfFault::NotStatic => "NotStatic",
+        ElfFault::BadHeader => "BadHeader",
+        ElfFault::BadSegment => "BadSegment",
+        ElfFault::TooMany => "TooMany",
+    }
+}
+
+/// The name of the kind of a refused bundle.
+fn bundle_name(kind: BundleKind) -> &'static str
+    ensures { result.now ≡ bundle_kind kind }
+{
+    match kind {
+        BundleKind::Syntax => "Syntax",
+        BundleKind::BadPath => "BadPath",
+        BundleKind::Twice => "Twice",
+        BundleKind::NoParent => "NoParent",
+        BundleKind::TooLong => "TooLong",
+        BundleKind::BadAsm => "BadAsm",
+        BundleKind::BadHex => "BadHex",
+        BundleKind::NoInit => "NoInit",
+    }
+}
+
+/// The name of the kind of an input that isn't booted.
+fn refusal_name(refusal: Refusal) -> &'static str
+    ensures { result.now ≡ kind_name (refusal_of refusal) }
 {
     match refusal {
-        Refusal::NotBuilt => b"bad input NotBuilt 0\n",
-        Refusal::NoRoom => b"bad input NoRoom 0\n",
-        Refusal::Elf(ElfFault::Short) => b"bad input Short 0\n",
-        Refusal::Elf(ElfFault::NotElf) => b"bad input NotElf 0\n",
-        Refusal::Elf(ElfFault::NotRv32) => b"bad input NotRv32 0\n",
-        Refusal::Elf(ElfFault::NotStatic) => b"bad input NotStatic 0\n",
-        Refusal::Elf(ElfFault::BadHeader) => b"bad input BadHeader 0\n",
-        Refusal::Elf(ElfFault::BadSegment) => b"bad input BadSegment 0\n",
-        Refusal::Elf(ElfFault::TooMany) => b"bad input TooMany 0\n",
+        Refusal::At { kind, .. } => bundle_name(kind),
+        Refusal::NoRoom { .. } => "NoRoom",
+        Refusal::Elf(fault) => elf_name(fault),
     }
+}
+
+/// The line that is told of it: 0 where no line is to blame.
+fn refusal_line(refusal: Refusal) -> u32
+    ensures { result ≡ line_told (refusal_of refusal) }
+{
+    match refusal {
+        Refusal::At { line, .. } | Refusal::NoRoom { line } => line,
+        Refusal::Elf(_) => 0,
+    }
+}
+
+/// The note of an input that isn't booted.
+#[tactic(auto, unfolding(crate::specs::Telling::refusal_note))]
+fn refused(alloc: Global, refusal: Refusal) -> Result<String, AllocError>
+    ensures { IfOk result (λ note. string_bytes note ≡ refusal_note (refusal_of refusal)) }
+{
+    let name = refusal_name(refusal);
+    let line = refusal_line(refusal);
+    format!(in alloc; "bad input {name} {line}\n")
 }
 
 /// The name of the kind of a refused source.
@@ -154,7 +200,7 @@ pub fn finish<E: Sink>(alloc: Global, notes: &mut E, ending: Ending) -> Status
             ending,
             b"usage: keynix DISK COMMAND [--name=value]\n",
         ),
-        Ending::Refused(refusal) => tell(notes, ending, refused(refusal)),
+        Ending::Refused(refusal) => tell_text(notes, ending, refused(alloc, refusal)),
         Ending::NotAssembled { kind, line } => {
             tell_text(notes, ending, not_assembled(alloc, kind, line))
         }

@@ -2,7 +2,9 @@
 #![tactic(auto)]
 
 mod asm;
+mod boot;
 mod ending;
+mod fault;
 mod finish;
 mod given;
 mod once;

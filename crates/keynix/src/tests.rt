@@ -1,6 +1,7 @@
 //! Whole runs of the program over memory: its words, its input, its output and its notes.
 
 mod assembling;
+mod bundles;
 mod schedules;
 
 use crate::finish::Status;
@@ -291,8 +292,6 @@ fn inputs_that_are_no_program_are_refused(rt: HostRuntime) -> Result<(), Fail> {
     for _ in 0..50u32 {
         short.push(0)?;
     }
-    check_once(&rt, &[], 2, "bad input NotBuilt 0\n")?;
-    check_once(&rt, b"keynix", 2, "bad input NotBuilt 0\n")?;
     check_once(&rt, &short, 2, "bad input Short 0\n")?;
     short.push(0)?;
     check_once(&rt, &short, 2, "bad input NotElf 0\n")?;

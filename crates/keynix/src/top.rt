@@ -4,10 +4,11 @@ ghost use Rattle.std.specs.Prelude.{◌≡◌, ◌≢◌, ◌≤◌, ◌⊎◌, 
 ghost use Rattle.kn_io.specs.Faults.{Rose};
 ghost use Rattle.kn_io.specs.Sink.{GrewByPrefix};
 ghost use Rattle.rv_asm.specs.Programs.{Program, Refusal as SourceRefusal, assembled};
-ghost use Rattle.keynix.specs.declared.ending.Refusal.{Refusal};
+ghost use Rattle.flat_bundle.specs.Booting.{Booted, Refusal};
 ghost use Rattle.unix_model.specs.Schedule.{Schedule};
 ghost use Rattle.keynix.specs.Words.{Asm, Once, Setup, command_of};
-ghost use Rattle.keynix.specs.Endings.{Booted, FromPlan, IsPlan, WritesFile, WritesPart, boot_of, run_of, schedule_told};
+ghost use Rattle.keynix.specs.Endings.{FromPlan, IsPlan, WritesFile, WritesPart, run_of, schedule_told};
+ghost use Rattle.keynix.specs.Inputs.{IsBoot};
 ghost use Rattle.keynix.specs.Promises.{Answers, HaltsOn, IdlesOn, IsPlanOf, KeepsPlanOf, ReadCause, RefusesOn, SpendsOn, is_status, stop_status};
 ghost use Rattle.keynix.specs.Telling.{PutsPartOfNote, no_memory_note, read_fault_note, usage_note, write_fault_note};
 
@@ -16,6 +17,7 @@ use crate::ending::Ending;
 use crate::finish::{Status, finish};
 use crate::once::once;
 use crate::words::{Command, parse};
+use flat_bundle::one_outcome_law;
 use kn_io::{Sink, Source};
 use std::alloc::Global;
 
@@ -89,20 +91,20 @@ pub fn keynix<S: Source, P: Source, K: Sink, E: Sink>(
     ensures write_fault_note { result.0 ≡ 4 → PutsPartOfNote E.grew notes.old notes.new }
     ensures write_fault_told { result.0 ≡ 4 → ¬ Rose (E.faults notes.old) (E.faults notes.new) → E.grew notes.old write_fault_note notes.new }
     ensures no_memory { result.0 ≡ 6 → E.grew notes.old no_memory_note notes.new }
-    ensures part { (setup : Setup) (text bytes : List ℕ) (schedule : Schedule) (booted : Booted) → command_of (map string_bytes words.now) ≡ Some (Once setup) → IsPlan setup.plan (P.left plan.old) text → schedule_told setup.plan text ≡ Ok schedule → S.left input.old ≡ Some bytes → boot_of setup bytes ≡ Ok booted
+    ensures part { (setup : Setup) (text bytes : List ℕ) (schedule : Schedule) (booted : Booted) → command_of (map string_bytes words.now) ≡ Some (Once setup) → IsPlan setup.plan (P.left plan.old) text → schedule_told setup.plan text ≡ Ok schedule → S.left input.old ≡ Some bytes → IsBoot setup bytes (Ok booted)
         → GrewByPrefix K.grew output.old (run_of setup.turns schedule booted).put output.new }
 
     // What is put where the input is refused, and of a source's file, where not all of it is.
-    ensures refused_output { (setup : Setup) (text bytes : List ℕ) (refusal : Refusal) → command_of (map string_bytes words.now) ≡ Some (Once setup) → IsPlan setup.plan (P.left plan.old) text → S.left input.old ≡ Some bytes → boot_of setup bytes ≡ Err refusal → output.new ≡ output.old }
+    ensures refused_output { (setup : Setup) (text bytes : List ℕ) (refusal : Refusal) → command_of (map string_bytes words.now) ≡ Some (Once setup) → IsPlan setup.plan (P.left plan.old) text → S.left input.old ≡ Some bytes → IsBoot setup bytes (Err refusal) → output.new ≡ output.old }
     ensures refused_source_output { (bytes : List ℕ) (refusal : SourceRefusal) → command_of (map string_bytes words.now) ≡ Some Asm → S.left input.old ≡ Some bytes → assembled bytes ≡ Err refusal → output.new ≡ output.old }
     ensures output_stays { result.0 ≢ 0 → result.0 ≢ 4 → command_of (map string_bytes words.now) ≡ Some Asm → output.new ≡ output.old }
     ensures file_part { result.0 ≡ 4 → (bytes : List ℕ) → command_of (map string_bytes words.now) ≡ Some Asm → S.left input.old ≡ Some bytes → (output.new ≡ output.old) ⊎ WritesPart (assembled bytes) K.grew output.old output.new }
 
     // Without a fault, and with memory, the status is what the run of the input says, or the meaning of the source.
-    ensures complete { (setup : Setup) (text bytes : List ℕ) (schedule : Schedule) (booted : Booted) → command_of (map string_bytes words.now) ≡ Some (Once setup) → IsPlan setup.plan (P.left plan.old) text → schedule_told setup.plan text ≡ Ok schedule → S.left input.old ≡ Some bytes → boot_of setup bytes ≡ Ok booted
+    ensures complete { (setup : Setup) (text bytes : List ℕ) (schedule : Schedule) (booted : Booted) → command_of (map string_bytes words.now) ≡ Some (Once setup) → IsPlan setup.plan (P.left plan.old) text → schedule_told setup.plan text ≡ Ok schedule → S.left input.old ≡ Some bytes → IsBoot setup bytes (Ok booted)
         → ¬ Rose (S.faults input.old) (S.faults input.new) → ¬ FromPlan setup.plan (Rose (P.faults plan.old) (P.faults plan.new)) → ¬ Rose (K.faults output.old) (K.faults output.new) → ¬ Rose (E.faults notes.old) (E.faults notes.new) → result.0 ≢ 6
         → result.0 ≡ stop_status (run_of setup.turns schedule booted).stop }
-    ensures refuses { (setup : Setup) (text bytes : List ℕ) (refusal : Refusal) → command_of (map string_bytes words.now) ≡ Some (Once setup) → IsPlan setup.plan (P.left plan.old) text → S.left input.old ≡ Some bytes → boot_of setup bytes ≡ Err refusal
+    ensures refuses { (setup : Setup) (text bytes : List ℕ) (refusal : Refusal) → command_of (map string_bytes words.now) ≡ Some (Once setup) → IsPlan setup.plan (P.left plan.old) text → S.left input.old ≡ Some bytes → IsBoot setup bytes (Err refusal)
         → ¬ Rose (S.faults input.old) (S.faults input.new) → ¬ FromPlan setup.plan (Rose (P.faults plan.old) (P.faults plan.new)) → ¬ Rose (E.faults notes.old) (E.faults notes.new) → result.0 ≢ 6 → result.0 ≡ 2 }
     ensures refuses_plan { (setup : Setup) (text : List ℕ) (line : ℕ) → command_of (map string_bytes words.now) ≡ Some (Once setup) → IsPlan setup.plan (P.left plan.old) text → schedule_told setup.plan text ≡ Err line
         → ¬ Rose (S.faults input.old) (S.faults input.new) → ¬ FromPlan setup.plan (Rose (P.faults plan.old) (P.faults plan.new)) → ¬ Rose (E.faults notes.old) (E.faults notes.new) → result.0 ≢ 6 → result.0 ≡ 2 }
@@ -116,5 +118,6 @@ pub fn keynix<S: Source, P: Source, K: Sink, E: Sink>(
     ensures output_counted { K.faults output.old ≤ K.faults output.new }
     ensures notes_counted { E.faults notes.old ≤ E.faults notes.new }
 {
+    one_outcome_law();
     perform(alloc, words, plan, input, output, notes)
 }

@@ -98,13 +98,13 @@ pub returns-clause-part : goal.returns-clause-part
 returns-clause-part g c =
     part-told g.S.Source.left g.P.Source.left g.K.Sink.grew g.E.Sink.grew (Rose (g.S.Source.faults c.args.input.now) (g.S.Source.faults c.perform.new.input)) (Rose (g.P.Source.faults c.args.plan.now) (g.P.Source.faults c.perform.new.plan)) (Rose (g.K.Sink.faults c.args.output.now) (g.K.Sink.faults c.perform.new.output))
     c.args.input.now c.perform.new.input c.args.plan.now c.perform.new.plan c.args.output.now c.perform.new.output c.args.notes.now c.perform.new.notes (Rose (g.E.Sink.faults c.args.notes.now) (g.E.Sink.faults c.perform.new.notes))
-    (command_of (map string_bytes c.args.words.now)) c.perform.result.0 c.perform.ensures.answers g.met.K.Sink.part_whole
+    (command_of (map string_bytes c.args.words.now)) c.perform.result.0 c.perform.ensures.answers c.one_outcome_law.ensures g.met.K.Sink.part_nothing g.met.K.Sink.part_whole
 
 pub returns-clause-refused_output : goal.returns-clause-refused_output
 returns-clause-refused_output g c =
     refused-output-told g.S.Source.left g.P.Source.left g.K.Sink.grew g.E.Sink.grew (Rose (g.S.Source.faults c.args.input.now) (g.S.Source.faults c.perform.new.input)) (Rose (g.P.Source.faults c.args.plan.now) (g.P.Source.faults c.perform.new.plan)) (Rose (g.K.Sink.faults c.args.output.now) (g.K.Sink.faults c.perform.new.output))
     c.args.input.now c.perform.new.input c.args.plan.now c.perform.new.plan c.args.output.now c.perform.new.output c.args.notes.now c.perform.new.notes (Rose (g.E.Sink.faults c.args.notes.now) (g.E.Sink.faults c.perform.new.notes))
-    (command_of (map string_bytes c.args.words.now)) c.perform.result.0 c.perform.ensures.answers
+    (command_of (map string_bytes c.args.words.now)) c.perform.result.0 c.perform.ensures.answers c.one_outcome_law.ensures
 
 pub returns-clause-refused_source_output : goal.returns-clause-refused_source_output
 returns-clause-refused_source_output g c =
@@ -128,13 +128,13 @@ pub returns-clause-complete : goal.returns-clause-complete
 returns-clause-complete g c =
     complete-told g.S.Source.left g.P.Source.left g.K.Sink.grew g.E.Sink.grew (Rose (g.S.Source.faults c.args.input.now) (g.S.Source.faults c.perform.new.input)) (Rose (g.P.Source.faults c.args.plan.now) (g.P.Source.faults c.perform.new.plan)) (Rose (g.K.Sink.faults c.args.output.now) (g.K.Sink.faults c.perform.new.output))
     c.args.input.now c.perform.new.input c.args.plan.now c.perform.new.plan c.args.output.now c.perform.new.output c.args.notes.now c.perform.new.notes (Rose (g.E.Sink.faults c.args.notes.now) (g.E.Sink.faults c.perform.new.notes))
-    (command_of (map string_bytes c.args.words.now)) c.perform.result.0 c.perform.ensures.answers
+    (command_of (map string_bytes c.args.words.now)) c.perform.result.0 c.perform.ensures.answers c.one_outcome_law.ensures
 
 pub returns-clause-refuses : goal.returns-clause-refuses
 returns-clause-refuses g c =
     refuses-told g.S.Source.left g.P.Source.left g.K.Sink.grew g.E.Sink.grew (Rose (g.S.Source.faults c.args.input.now) (g.S.Source.faults c.perform.new.input)) (Rose (g.P.Source.faults c.args.plan.now) (g.P.Source.faults c.perform.new.plan)) (Rose (g.K.Sink.faults c.args.output.now) (g.K.Sink.faults c.perform.new.output))
     c.args.input.now c.perform.new.input c.args.plan.now c.perform.new.plan c.args.output.now c.perform.new.output c.args.notes.now c.perform.new.notes (Rose (g.E.Sink.faults c.args.notes.now) (g.E.Sink.faults c.perform.new.notes))
-    (command_of (map string_bytes c.args.words.now)) c.perform.result.0 c.perform.ensures.answers
+    (command_of (map string_bytes c.args.words.now)) c.perform.result.0 c.perform.ensures.answers c.one_outcome_law.ensures
 
 pub returns-clause-refuses_plan : goal.returns-clause-refuses_plan
 returns-clause-refuses_plan g c =
