@@ -16,7 +16,7 @@ use Rattle.unix_model.specs.Tables.{at, with_at}
 use Rattle.unix_model.proofs.TableLaws.{with_at-same}
 use Rattle.domain.specs.Keys.{is_number, is_meter, node_in, root_in, word_in, count_in, key_of_space}
 use Rattle.domain.specs.Domains.{no_domain, full_domain, domain_by, domain_at, words_of, node_words, lives_by, life_in, roots_by}
-use Rattle.domain.specs.Rules.{RootGood, RowsGood, NobodyIn, written}
+use Rattle.domain.specs.Rules.{RootGood, RootPlaces, RowsGood, NobodyIn, written}
 use Rattle.domain.specs.Life.{with_zeros, null_row, zero_row, zero_number, root_row, born}
 use Rattle.domain.proofs.RowLaws.{here_at, other_at, changed_at, row_case, written_both, rows_good_same, number_no_node}
 use Rattle.domain.proofs.DomainLaws.{domains_at, lives_row_same}
@@ -57,12 +57,17 @@ pub zero_is_number : (place : ℕ) → place < 11 → is_number (zero_row place)
 unfolding with_zeros
 zero_is_number place low = rw (le-ltb place 0 (omega arith), lt-ltb place 11 low) refl
 
+pub zero_is_null : (place : ℕ) → 11 ≤ place → zero_row place ≡ Null
+unfolding with_zeros
+zero_is_null place above = rw (le-ltb place 0 (omega arith), le-ltb place 11 above) refl
+
 pub nobody_row : (rows : ℕ → ℕ → Key) (n : ℕ) (row : ℕ → Key) (m : ℕ) → NobodyIn rows m → ((i : ℕ) → node_in (row i) ≡ None) → NobodyIn (with_at rows n row) m
 nobody_row rows n row m nobody none a i = row_case rows n row (λ (r : ℕ → Key). node_in (r i) ≡ Some m → ⊥) a (λ e. none_not (node_in (row i)) m (none i)) (λ d. nobody a i)
 
 -- a row without Node keys, of a fresh node, which is no root's
 pub idle_good : (rows : ℕ → ℕ → Key) (n : ℕ) (row : ℕ → Key) → RowsGood rows → NobodyIn rows n → rows n ≡ null_row → ((i : ℕ) → node_in (row i) ≡ None) → is_meter (row 2) ≡ false → RowsGood (with_at rows n row)
 idle_good rows n row good nobody null plain none = rows_good_same rows n row good (λ i. plain i ∙ sym (ap (λ (r : ℕ → Key). node_in (r i)) null)) (λ a i j named low. absurd (nobody a i named))
+    (λ a i j named above. absurd (nobody a i named)) (λ meter. let no : false ≡ true = sym none ∙ meter in cc)
     (λ meter. let no : false ≡ true = sym none ∙ meter in cc)
 
 pub idle_domains : (rows : ℕ → ℕ → Key) (n : ℕ) (row : ℕ → Key) → NobodyIn rows n → rows n ≡ null_row → ((i : ℕ) → node_in (row i) ≡ None) → is_meter (row 2) ≡ false → domain_at (with_at rows n row) ≡ domain_at rows
@@ -87,7 +92,7 @@ data Names (rows : ℕ → ℕ → Key) (root a b p i m : ℕ) : Type 0 where
 -- A root's row in a fresh node, which names two nodes of words that nothing names yet.
 module _ (rows : ℕ → ℕ → Key) (root a b : ℕ) (row : ℕ → Key) (good : RowsGood rows) (no_root_named : NobodyIn rows root) (no_a : NobodyIn rows a) (no_b : NobodyIn rows b)
     (a_b : a ≢ b) (root_a : root ≢ a) (root_b : root ≢ b) (is_a : node_in (row 3) ≡ Some a) (is_b : node_in (row 4) ≡ Some b)
-    (plain : (i : ℕ) → i ≢ 3 → i ≢ 4 → node_in (row i) ≡ None) (zero_a : rows a ≡ zero_row) (zero_b : rows b ≡ zero_row) (root_good : RootGood row) where
+    (plain : (i : ℕ) → i ≢ 3 → i ≢ 4 → node_in (row i) ≡ None) (zero_a : rows a ≡ zero_row) (zero_b : rows b ≡ zero_row) (root_places : RootPlaces row) (root_good : RootGood row) where
   in_row : (p i m : ℕ) → p ≡ root → node_in (row i) ≡ Some m → Names rows root a b p i m
   in_row p i m here named = ⊎_elim
       (λ (e : i ≡ 3). third here e (let same : Some a ≡ Some m = sym is_a ∙ ap (λ j. node_in (row j)) (sym e) ∙ named in cc))
@@ -116,6 +121,11 @@ module _ (rows : ℕ → ℕ → Key) (root a b : ℕ) (row : ℕ → Key) (good
   holds_numbers p i m j (fourth x y z) low = ap (λ n. is_number (rows n j)) z ∙ ap (λ (r : ℕ → Key). is_number (r j)) zero_b ∙ zero_is_number j low
   holds_numbers p i m j (as_before x) low = good.plain p i m j x low
 
+  holds_nulls : (p i m j : ℕ) → Names rows root a b p i m → 11 ≤ j → rows m j ≡ Null
+  holds_nulls p i m j (third x y z) above = ap (λ n. rows n j) z ∙ ap (λ (r : ℕ → Key). r j) zero_a ∙ zero_is_null j above
+  holds_nulls p i m j (fourth x y z) above = ap (λ n. rows n j) z ∙ ap (λ (r : ℕ → Key). r j) zero_b ∙ zero_is_null j above
+  holds_nulls p i m j (as_before x) above = good.blank p i m j x above
+
   not_root : (p i m : ℕ) → Names rows root a b p i m → m ≡ root → ⊥
   not_root p i m (third x y z) e = root_a (sym e ∙ z)
   not_root p i m (fourth x y z) e = root_b (sym e ∙ z)
@@ -126,6 +136,9 @@ module _ (rows : ℕ → ℕ → Key) (root a b : ℕ) (row : ℕ → Key) (good
     single = λ p i q j m h k. one_place p i q j m (names_in p i m h) (names_in q j m k);
     plain = λ p i m j h low. row_case rows root row (λ (r : ℕ → Key). is_number (r j) ≡ true) m
         (λ e. absurd (not_root p i m (names_in p i m h) e)) (λ d. holds_numbers p i m j (names_in p i m h) low);
+    blank = λ p i m j h above. row_case rows root row (λ (r : ℕ → Key). r j ≡ Null) m
+        (λ e. absurd (not_root p i m (names_in p i m h) e)) (λ d. holds_nulls p i m j (names_in p i m h) above);
+    places = λ m meter. row_case rows root row (λ (r : ℕ → Key). is_meter (r 2) ≡ true → RootPlaces r) m (λ e h. root_places) (λ d h. good.places m h) meter;
     roots = λ m meter. row_case rows root row (λ (r : ℕ → Key). is_meter (r 2) ≡ true → RootGood r) m (λ e h. root_good) (λ d h. good.roots m h) meter;
   }
 
@@ -211,6 +224,42 @@ born_root_good life slot space regs descriptors number = record {
   call_fits = let z = zero_word 0 (omega arith) in omega arith;
   request_fits = let z = zero_word 2 (omega arith) in omega arith;
   answer_fits = let z = zero_word 2 (omega arith) in omega arith;
+}
+
+zeros_past : (place : ℕ) → 13 ≤ place → with_zeros null_row 7 13 place ≡ Null
+unfolding with_zeros
+zeros_past place above = rw (le-ltb place 7 (omega arith), le-ltb place 13 above) refl
+
+root_blank : (life : Key) (slot space regs descriptors place : ℕ) → 13 ≤ place → root_row life slot space regs descriptors place ≡ Null
+unfolding root_row
+root_blank life slot space regs descriptors place above =
+    let r0 = with_zeros null_row 7 13 in
+    let r1 = with_at r0 6 life in
+    let r2 = with_at r1 2 (Meter slot) in
+    let r3 = with_at r2 0 (key_of_space (Some space)) in
+    let r4 = with_at r3 1 (Start (record { 0 = 1 }) slot) in
+    let r5 = with_at r4 3 (Node (record { 0 = regs })) in
+    row_case r5 4 (Node (record { 0 = descriptors })) (λ k. k ≡ Null) place (λ e. absurd (omega arith)) (λ d5.
+    row_case r4 3 (Node (record { 0 = regs })) (λ k. k ≡ Null) place (λ e. absurd (omega arith)) (λ d4.
+    row_case r3 1 (Start (record { 0 = 1 }) slot) (λ k. k ≡ Null) place (λ e. absurd (omega arith)) (λ d3.
+    row_case r2 0 (key_of_space (Some space)) (λ k. k ≡ Null) place (λ e. absurd (omega arith)) (λ d2.
+    row_case r1 2 (Meter slot) (λ k. k ≡ Null) place (λ e. absurd (omega arith)) (λ d1.
+    row_case r0 6 life (λ k. k ≡ Null) place (λ e. absurd (omega arith)) (λ d0. zeros_past place above))))))
+
+root_words : (life : Key) (slot space regs descriptors place : ℕ) → 3 ≤ place → place ≤ 4 → node_in (root_row life slot space regs descriptors place) ≡ None → root_row life slot space regs descriptors place ≡ Null
+unfolding root_row with_at with_zeros
+root_words life slot space regs descriptors place low high none = ⊎_elim
+    (λ (e : place ≡ 3). let no : Some regs ≡ None = ap (λ p. node_in (root_row life slot space regs descriptors p)) (sym e) ∙ none in cc)
+    (λ (d : place ≢ 3). let e : place ≡ 4 = omega arith in let no : Some descriptors ≡ None = ap (λ p. node_in (root_row life slot space regs descriptors p)) (sym e) ∙ none in cc)
+    (cases_eq place 3)
+
+pub born_root_places : (life : Key) (slot space regs descriptors : ℕ) → RootPlaces (root_row life slot space regs descriptors)
+unfolding root_row with_at with_zeros
+born_root_places life slot space regs descriptors = record {
+  keeper = refl;
+  both = refl;
+  no_words = λ place low high none. root_words life slot space regs descriptors place low high none;
+  blank = λ place above. root_blank life slot space regs descriptors place above;
 }
 
 zeros_plain : (i : ℕ) → node_in (with_zeros null_row 7 13 i) ≡ None

@@ -1,5 +1,5 @@
 -- Pages that belong to no tree, while they are taken and given back.
-use Rattle.std.proofs.Common.{◌≡◌, ◌<◌, ◌+◌, ◌-◌, ◌*◌, ℕ, Some, None, true, false, nat_lt, List, [], ◌∷◌, length, set, get_or-set_same, refl, ap, sym, subst, ◌∙◌, arith, add-zero, if◌then◌else◌}
+use Rattle.std.proofs.Common.{◌≡◌, ◌<◌, ◌+◌, ◌-◌, ◌*◌, ℕ, Some, None, true, false, nat_lt, List, [], ◌∷◌, length, set, get_or-set_same, refl, ap, sym, subst, ◌∙◌, arith, inr, add-zero, if◌then◌else◌}
 use Rattle.std.proofs.Math.Path.{fun_ext}
 use Rattle.std.proofs.lemmas.Bool.{eq-eqb}
 use Rattle.std.specs.Prelude.{slice_index_or}
@@ -131,7 +131,7 @@ module _ (k0 k1 k2 : Kernel) (root : ℕ) (id : PageId) (good : BankGood k0) (ro
 
     pub buffer_rows : RowsGood (domain_rows k2)
     buffer_rows = subst RowsGood (sym rows_now)
-        (rows_good_root (domain_rows k0) root 5 (Page id true) rows meter refl (ap node_in stood)
+        (rows_good_root (domain_rows k0) root 5 (Page id true) rows meter (inr refl) refl (ap node_in stood)
         (root_good_buffer (domain_rows k0 root) (Page id true) (rows.roots root meter) (λ e. let no : Some id.0 ≡ None = e in cc)))
 
     state : k2 ≡ record k1 { keys = k2.keys }
@@ -236,7 +236,7 @@ module _ (k0 k1 : Kernel) (root page : ℕ) (rows : RowsGood (domain_rows k0)) (
 
     pub dropped_rows : RowsGood (domain_rows k2)
     dropped_rows = subst RowsGood (sym rows_end)
-        (rows_good_root (domain_rows k0) root 5 Null rows its_root refl (page_no_node (domain_rows k0 root 5) page (sym (root_buffer (domain_rows k0) root live) ∙ held))
+        (rows_good_root (domain_rows k0) root 5 Null rows its_root (inr refl) refl (page_no_node (domain_rows k0 root 5) page (sym (root_buffer (domain_rows k0) root live) ∙ held))
         (root_good_buffer (domain_rows k0 root) Null (rows.roots root its_root) (λ none. refl)))
 
     pub drops_buffer : DropsBuffer k0 k2 root page

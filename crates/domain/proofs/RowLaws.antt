@@ -1,12 +1,13 @@
 -- Rows of keys, while a key is written in one.
 use Rattle.std.proofs.Common.{◌≡◌, ◌≢◌, ◌<◌, ◌≤◌, ℕ, Some, None, true, false, refl, ap, sym, subst, ◌∙◌, arith, ⊎_elim}
 use Rattle.std.proofs.Math.Path.{fun_ext}
+use Rattle.std.specs.Option.{is_some}
 use Rattle.std.proofs.lemmas.Bool.{cases_eq, eq-eqb, ne_eqb}
 use Rattle.kn_base.specs.declared.key.Key.{Key}
-use Rattle.kn_base.specs.declared.key.Key.TheVariants.{Null, Number, Meter}
+use Rattle.kn_base.specs.declared.key.Key.TheVariants.{Null, Number, Meter, Start}
 use Rattle.unix_model.specs.Tables.{at, with_at}
-use Rattle.domain.specs.Keys.{is_number, is_meter, node_in, segment_in, page_in, word_in, key_of_space}
-use Rattle.domain.specs.Rules.{RootGood, RowsGood, NumberFits, NobodyIn, written}
+use Rattle.domain.specs.Keys.{is_number, is_meter, meter_in, node_in, segment_in, page_in, word_in, key_of_space}
+use Rattle.domain.specs.Rules.{RootGood, RootPlaces, RowsGood, NumberFits, NobodyIn, written}
 
 pub here_at : {X : Type 0} (f : ℕ → X) (n : ℕ) (x : X) → with_at f n x n ≡ x
 unfolding with_at
@@ -66,12 +67,43 @@ number_no_node _ number = cc
 pub root_unnamed : (rows : ℕ → ℕ → Key) (root : ℕ) → RowsGood rows → is_meter (rows root 2) ≡ true → NobodyIn rows root
 root_unnamed rows root good meter a i named = meter_no_number (rows root 2) meter (good.plain a i root 2 named (omega arith))
 
+-- what holds of the new value, and of each old one, holds of the table with the new value
+pub row_case : {X : Type 0} (f : ℕ → X) (n : ℕ) (x : X) (P : X → Type 0) (m : ℕ) → (m ≡ n → P x) → (m ≢ n → P (f m)) → P (with_at f n x m)
+row_case f n x P m now before = ⊎_elim
+    (λ (e : m ≡ n). subst P (sym (ap (with_at f n x) e ∙ here_at f n x)) (now e))
+    (λ (d : m ≢ n). subst P (sym (other_at f n m x d)) (before d))
+    (cases_eq m n)
+
+-- what holds of the key that was written, at its place, and of the key that stood at a place holds after the write
+pub written_both : (rows : ℕ → ℕ → Key) (node place : ℕ) (key : Key) (P : Key → Type 0) (m j : ℕ) → (m ≡ node → j ≡ place → P key) → P (rows m j) → P (written rows node place key m j)
+written_both rows node place key P m j here before = go (at_place rows node place key m j)
+  where
+    go : At rows node place key m j → P (written rows node place key m j)
+    go (there a b e) = subst P (sym e) (here a b)
+    go (as_before e) = subst P (sym e) before
+
+-- a key of a root at none of the places 1 to 4 is written
+pub places_kept : (row : ℕ → Key) (place : ℕ) (key : Key) → ((j : ℕ) → 1 ≤ j → j ≤ 4 → j ≢ place) → place < 13 → RootPlaces row → RootPlaces (with_at row place key)
+places_kept row place key apart low is = record {
+  keeper = other_at row place 1 key (apart 1 (omega arith) (omega arith)) ∙ is.keeper
+      ∙ ap (λ k. Start (record { 0 = 1 }) (meter_in k)) (sym (other_at row place 2 key (apart 2 (omega arith) (omega arith))));
+  both = ap (λ k. is_some (node_in k)) (other_at row place 3 key (apart 3 (omega arith) (omega arith))) ∙ is.both
+      ∙ ap (λ k. is_some (node_in k)) (sym (other_at row place 4 key (apart 4 (omega arith) (omega arith))));
+  no_words = λ p above below none. other_at row place p key (apart p (omega arith) below)
+      ∙ is.no_words p above below (ap node_in (sym (other_at row place p key (apart p (omega arith) below))) ∙ none);
+  blank = λ p above. other_at row place p key (λ e. absurd (omega arith)) ∙ is.blank p above;
+}
+
 -- a number is written in a root
-pub rows_good_number : (rows : ℕ → ℕ → Key) (root place : ℕ) (key : Key) → RowsGood rows → is_meter (rows root 2) ≡ true → 6 ≤ place → NumberFits place key
+pub rows_good_number : (rows : ℕ → ℕ → Key) (root place : ℕ) (key : Key) → RowsGood rows → is_meter (rows root 2) ≡ true → 6 ≤ place → place ≤ 12 → NumberFits place key
     → RowsGood (written rows root place key)
-rows_good_number rows root place key good meter low fits = record {
+unfolding at
+rows_good_number rows root place key good meter low high fits = record {
   single = λ a i b j n h k. good.single a i b j n (was a i n h) (was b j n k);
   plain = λ a i n j h below. written_case rows root place key (λ k. is_number k ≡ true) n j (λ e. fits.number) (good.plain a i n j (was a i n h) below);
+  blank = λ a i n j h above. written_both rows root place key (λ k. k ≡ Null) n j (λ e f. absurd (root_unnamed rows root good meter a i (was a i n h ∙ ap Some e))) (good.blank a i n j (was a i n h) above);
+  places = λ m. row_case rows root (with_at (rows root) place key) (λ (r : ℕ → Key). is_meter (r 2) ≡ true → RootPlaces r) m
+      (λ e h. places_kept (rows root) place key (λ j above below e. absurd (omega arith)) (omega arith) (good.places root meter)) (λ d. good.places m);
   roots = λ m h.
       let root_good = good.roots m (sym (ap is_meter (written_other rows root place key m 2 (λ e. absurd (omega arith)))) ∙ h) in
       record {
@@ -89,20 +121,17 @@ rows_good_number rows root place key good meter low fits = record {
         (λ e h. let no : None ≡ Some n = sym (number_no_node key fits.number) ∙ h in cc)
         (λ h. h)
 
--- what holds of the new value, and of each old one, holds of the table with the new value
-pub row_case : {X : Type 0} (f : ℕ → X) (n : ℕ) (x : X) (P : X → Type 0) (m : ℕ) → (m ≡ n → P x) → (m ≢ n → P (f m)) → P (with_at f n x m)
-row_case f n x P m now before = ⊎_elim
-    (λ (e : m ≡ n). subst P (sym (ap (with_at f n x) e ∙ here_at f n x)) (now e))
-    (λ (d : m ≢ n). subst P (sym (other_at f n m x d)) (before d))
-    (cases_eq m n)
-
 -- a row whose keys name the nodes that they named before, in place of a node's own
 pub rows_good_same : (rows : ℕ → ℕ → Key) (n : ℕ) (row : ℕ → Key) → RowsGood rows → ((i : ℕ) → node_in (row i) ≡ node_in (rows n i))
-    → ((a i j : ℕ) → node_in (rows a i) ≡ Some n → j < 11 → is_number (row j) ≡ true) → (is_meter (row 2) ≡ true → RootGood row) → RowsGood (with_at rows n row)
-rows_good_same rows n row good names numbers root = record {
+    → ((a i j : ℕ) → node_in (rows a i) ≡ Some n → j < 11 → is_number (row j) ≡ true) → ((a i j : ℕ) → node_in (rows a i) ≡ Some n → 11 ≤ j → row j ≡ Null)
+    → (is_meter (row 2) ≡ true → RootPlaces row) → (is_meter (row 2) ≡ true → RootGood row) → RowsGood (with_at rows n row)
+rows_good_same rows n row good names numbers blanks places root = record {
   single = λ a i b j m h k. good.single a i b j m (was a i m h) (was b j m k);
   plain = λ a i m j h below.
       row_case rows n row (λ (r : ℕ → Key). is_number (r j) ≡ true) m (λ e. numbers a i j (was a i m h ∙ ap Some e) below) (λ d. good.plain a i m j (was a i m h) below);
+  blank = λ a i m j h above.
+      row_case rows n row (λ (r : ℕ → Key). r j ≡ Null) m (λ e. blanks a i j (was a i m h ∙ ap Some e) above) (λ d. good.blank a i m j (was a i m h) above);
+  places = λ m h. row_case rows n row (λ (r : ℕ → Key). is_meter (r 2) ≡ true → RootPlaces r) m (λ e. places) (λ d. good.places m) h;
   roots = λ m h. row_case rows n row (λ (r : ℕ → Key). is_meter (r 2) ≡ true → RootGood r) m (λ e. root) (λ d. good.roots m) h;
 }
   where
@@ -131,11 +160,3 @@ root_good_buffer row key good is = record {
   request_fits = row_case row 5 key (λ k. word_in k 2 ≤ 4096) 10 (λ e. absurd (omega arith)) (λ d. good.request_fits);
   answer_fits = row_case row 5 key (λ k. word_in k 2 ≤ 4096) 11 (λ e. absurd (omega arith)) (λ d. good.answer_fits);
 }
-
--- what holds of the key that was written, at its place, and of the key that stood at a place holds after the write
-pub written_both : (rows : ℕ → ℕ → Key) (node place : ℕ) (key : Key) (P : Key → Type 0) (m j : ℕ) → (m ≡ node → j ≡ place → P key) → P (rows m j) → P (written rows node place key m j)
-written_both rows node place key P m j here before = go (at_place rows node place key m j)
-  where
-    go : At rows node place key m j → P (written rows node place key m j)
-    go (there a b e) = subst P (sym e) (here a b)
-    go (as_before e) = subst P (sym e) before

@@ -33,6 +33,8 @@ null_rows : RowsGood (λ node. null_row)
 null_rows = record {
   single = λ a i b j node h k. let no : None ≡ Some node = h in cc;
   plain = λ a i node j h low. let no : None ≡ Some node = h in cc;
+  blank = λ a i node j h above. let no : None ≡ Some node = h in cc;
+  places = λ root meter. let no : false ≡ true = meter in cc;
   roots = λ root meter. let no : false ≡ true = meter in cc;
 }
 

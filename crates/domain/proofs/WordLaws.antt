@@ -96,6 +96,8 @@ words_good rows node place key good is below number =
     (λ e. number_no_node key number ∙ sym (ap (λ j. node_in (rows node j)) e ∙ number_no_node (rows node place) (good.plain is.by is.place node place is.named below)))
     (λ d. refl))
     (λ a i j h low. row_case (rows node) place key (λ k. is_number k ≡ true) j (λ e. number) (λ d. good.plain a i node j h low))
+    (λ a i j h above. other_at (rows node) place j key (λ e. absurd (omega arith)) ∙ good.blank a i node j h above)
+    (λ meter. let no : false ≡ true = sym (words_still rows node place key good is number) ∙ meter in cc)
     (λ meter. let no : false ≡ true = sym (words_still rows node place key good is number) ∙ meter in cc)
   where
     words_still : (rows : ℕ → ℕ → Key) (node place : ℕ) (key : Key) → RowsGood rows → IsNamed rows node → is_number key ≡ true → is_meter (with_at (rows node) place key 2) ≡ false

@@ -1,9 +1,9 @@
 -- What holds of the rows of domains from call to call.
-use Rattle.std.specs.Prelude.{◌≡◌, ℕ, ◌<◌, ◌≤◌, true, Some, None}
+use Rattle.std.specs.Prelude.{◌≡◌, ℕ, ◌<◌, ◌≤◌, true, Some, None, is_some}
 use Rattle.kn_base.specs.declared.key.Key.{Key}
-use Rattle.kn_base.specs.declared.key.Key.TheVariants.{Null}
+use Rattle.kn_base.specs.declared.key.Key.TheVariants.{Null, Start}
 use Rattle.unix_model.specs.Tables.{at, with_at}
-use Rattle.domain.specs.Keys.{is_number, is_meter, node_in, segment_in, page_in, word_in, key_of_space}
+use Rattle.domain.specs.Keys.{is_number, is_meter, meter_in, node_in, segment_in, page_in, word_in, key_of_space}
 
 -- Key 0 of a root is that of a space or Null, and key 5 that of a page or Null. Keys 6 to 12 are numbers. The number of a call
 -- fits a byte, and no request and no answer brings more than a page.
@@ -15,11 +15,21 @@ pub record RootGood (row : ℕ → Key) : Type 0 where
   pub request_fits : word_in (row 10) 2 ≤ 4096
   pub answer_fits : word_in (row 11) 2 ≤ 4096
 
--- A Node key stands at one place only, and what it names holds numbers. So a root is named by none, and a key that is
--- written in a root changes one domain.
+-- Key 1 of a root is the keeper's Start key, with the slot as its byte. Keys 3 and 4 are Node keys, or both are Null. Keys 13 to 15
+-- are Null.
+pub record RootPlaces (row : ℕ → Key) : Type 0 where
+  pub keeper : row 1 ≡ Start (record { 0 = 1 }) (meter_in (row 2))
+  pub both : is_some (node_in (row 3)) ≡ is_some (node_in (row 4))
+  pub no_words : (place : ℕ) → 3 ≤ place → place ≤ 4 → node_in (row place) ≡ None → row place ≡ Null
+  pub blank : (place : ℕ) → 13 ≤ place → row place ≡ Null
+
+-- A Node key stands at one place only, and what it names holds numbers at keys 0 to 10, and Null behind them. So a root is named
+-- by none, and a key that is written in a root changes one domain.
 pub record RowsGood (rows : ℕ → ℕ → Key) : Type 0 where
   pub single : (a i b j node : ℕ) → node_in (rows a i) ≡ Some node → node_in (rows b j) ≡ Some node → (a ≡ b) × (i ≡ j)
   pub plain : (a i node j : ℕ) → node_in (rows a i) ≡ Some node → j < 11 → is_number (rows node j) ≡ true
+  pub blank : (a i node j : ℕ) → node_in (rows a i) ≡ Some node → 11 ≤ j → rows node j ≡ Null
+  pub places : (root : ℕ) → is_meter (rows root 2) ≡ true → RootPlaces (rows root)
   pub roots : (root : ℕ) → is_meter (rows root 2) ≡ true → RootGood (rows root)
 
 -- a Node key names the node

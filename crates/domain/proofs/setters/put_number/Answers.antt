@@ -34,7 +34,7 @@ pub returns-clause-rows : goal.returns-clause-rows
 returns-clause-rows g c =
     let old = kernel_of (g.T.Store.memory c.args.store.now) in
     subst RowsGood (sym (returns-clause-put g c))
-    (rows_good_number (domain_rows old) c.args.root.0 c.args.place c.args.key c.requires.rows (live_meter (domain_rows old) c.args.root.0 c.requires.live) c.requires.low c.requires.fits)
+    (rows_good_number (domain_rows old) c.args.root.0 c.args.place c.args.key c.requires.rows (live_meter (domain_rows old) c.args.root.0 c.requires.live) c.requires.low c.requires.high c.requires.fits)
 
 pub returns-clause-others : goal.returns-clause-others
 returns-clause-others g c =
