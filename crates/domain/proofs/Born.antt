@@ -185,11 +185,11 @@ zero_words n = ⊎_elim
     (λ (t : 33 ≤ n). rw (le-ltb n 33 t) refl)
     (cases_lt n 33)
 
-born_row : (life : Key) (slot space regs descriptors : ℕ) → full_domain (root_row life slot space regs descriptors) (λ n. 0) (λ n. 0) ≡ born slot space
+born_row : (life : Key) (slot space regs descriptors : ℕ) → full_domain (root_row life slot space regs descriptors) (λ n. 0) (λ n. 0) ≡ born slot space regs descriptors
 unfolding full_domain root_row with_zeros with_at word_in
 born_row life slot space regs descriptors = refl
 
-pub born_is : (life : Key) (slot space regs descriptors : ℕ) → full_domain (root_row life slot space regs descriptors) (node_words zero_row) (node_words zero_row) ≡ born slot space
+pub born_is : (life : Key) (slot space regs descriptors : ℕ) → full_domain (root_row life slot space regs descriptors) (node_words zero_row) (node_words zero_row) ≡ born slot space regs descriptors
 born_is life slot space regs descriptors =
     ap (λ w. full_domain (root_row life slot space regs descriptors) w (node_words zero_row)) (fun_ext zero_words)
     ∙ ap (full_domain (root_row life slot space regs descriptors) (λ n. 0)) (fun_ext zero_words)

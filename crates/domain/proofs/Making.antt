@@ -178,12 +178,12 @@ module _ (k0 k1 k2 k3 k4 k5 k6 k7 : Kernel) (slot space r d t : ℕ) (good : Row
       (born_good (domain_rows k5) t r d (root_row root.life slot space r d) good5 nobody_t nobody_r nobody_d r_d t_r t_d (root_third root.life slot space r d) (root_fourth root.life slot space r d)
       (root_plain_keys root.life slot space r d root.number) zero_r zero_d (born_root_places root.life slot space r d) (born_root_good root.life slot space r d root.number))
 
-  domains6 : domain_at (domain_rows k6) ≡ with_at (domain_at (domain_rows k0)) t (born slot space)
+  domains6 : domain_at (domain_rows k6) ≡ with_at (domain_at (domain_rows k0)) t (born slot space r d)
   domains6 = ap domain_at root.fills.rows_now
       ∙ born_domains (domain_rows k5) t r d (root_row root.life slot space r d) good5 nobody_t nobody_r nobody_d r_d t_r t_d (root_third root.life slot space r d) (root_fourth root.life slot space r d)
       (root_plain_keys root.life slot space r d root.number) zero_r zero_d (born_root_places root.life slot space r d) (born_root_good root.life slot space r d root.number) (root_meter root.life slot space r d)
       ∙ ap (with_at (domain_at (domain_rows k5)) t) (born_is root.life slot space r d)
-      ∙ ap (λ x. with_at x t (born slot space)) (ap domain_at rows5 ∙ domains4)
+      ∙ ap (λ x. with_at x t (born slot space r d)) (ap domain_at rows5 ∙ domains4)
 
   lives6 : (fixed : ℕ → ℕ → Key) → lives_by (domain_rows k6) fixed ≡ with_at (lives_by (domain_rows k0) fixed) t (life_in root.life)
   lives6 fixed = ap (λ x. lives_by x fixed) root.fills.rows_now ∙ born_lives (domain_rows k5) fixed t (root_row root.life slot space r d) (root_meter root.life slot space r d)
@@ -249,8 +249,6 @@ module _ (k0 k1 k2 k3 k4 k5 k6 k7 : Kernel) (slot space r d t : ℕ) (good : Row
     entry_of_root = after t ∙ t3.entry;
     entry_of_regs = after r ∙ t3.others r (λ e. t_r (sym e)) ∙ taken_r_too;
     entry_of_descriptors = after d ∙ t3.others d (λ e. t_d (sym e)) ∙ taken_d;
-    regs_named = ap node_in (root_key_now 3) ∙ root_third root.life slot space r d;
-    descriptors_named = ap node_in (root_key_now 4) ∙ root_fourth root.life slot space r d;
     number = number_now;
     shares = s5;
   }
@@ -260,6 +258,3 @@ module _ (k0 k1 k2 k3 k4 k5 k6 k7 : Kernel) (slot space r d t : ℕ) (good : Row
 
       after : (node : ℕ) → entry_at k7.node_entries node ≡ entry_at k5.node_entries node
       after node = ap (λ (k : Kernel). entry_at k.node_entries node) put.state ∙ ap (λ (k : Kernel). entry_at k.node_entries node) root.fills.rest
-
-      root_key_now : (place : ℕ) → domain_rows k7 t place ≡ root_row root.life slot space r d place
-      root_key_now place = ap (λ (x : ℕ → ℕ → Key). x t place) (rows7 ∙ root.fills.rows_now) ∙ ap (λ (x : ℕ → Key). x place) (here_at (domain_rows k5) t (root_row root.life slot space r d))

@@ -69,11 +69,13 @@ abbrev pub regs_by : (ℕ → ℕ) → Regs
 regs_by words = record { x = tabulate words 32; pc = words 32 }
 
 -- What a domain is. `live` tells the roots of domains from all other nodes, and `whole` those that have both other nodes,
--- as all but zombies do. `regs` are x0 to x31, and pc as word 32. The heads are the process's own id and its parent's, the
+-- as all but zombies do. Which nodes these are tell `regs_node` and `descriptors_node`. `regs` are x0 to x31, and pc as word 32. The heads are the process's own id and its parent's, the
 -- break, and the word that a wait answers. `marks` tell whether the process is parked, and on what.
 pub record Domain : Type 0 where
   pub live : Bool
   pub whole : Bool
+  pub regs_node : Option ℕ
+  pub descriptors_node : Option ℕ
   pub slot : ℕ
   pub space : Option ℕ
   pub buffer : Option ℕ
@@ -93,6 +95,8 @@ abbrev pub no_domain : Domain
 no_domain = record {
   live = false;
   whole = false;
+  regs_node = None;
+  descriptors_node = None;
   slot = 0;
   space = None;
   buffer = None;
@@ -114,6 +118,8 @@ unfoldable pub full_domain : (ℕ → Key) → (ℕ → ℕ) → (ℕ → ℕ) �
 full_domain row regs descriptors = record {
   live = true;
   whole = is_some (node_in (row 3)) && is_some (node_in (row 4));
+  regs_node = node_in (row 3);
+  descriptors_node = node_in (row 4);
   slot = meter_in (row 2);
   space = segment_in (row 0);
   buffer = page_in (row 5);

@@ -49,8 +49,9 @@ abbrev pub slot_key : Kernel → ℕ → Key
 slot_key kernel slot = fixed_rows kernel (11 + slot / 16) (slot % 16)
 
 -- a process that was just made: it runs, with zeros in all its words and no descriptor
-abbrev pub born : ℕ → ℕ → Domain
-born slot space = record no_domain { live = true; whole = true; slot = slot; space = Some space }
+abbrev pub born : ℕ → ℕ → ℕ → ℕ → Domain
+born slot space regs descriptors =
+    record no_domain { live = true; whole = true; regs_node = Some regs; descriptors_node = Some descriptors; slot = slot; space = Some space }
 
 -- the rows of the two nodes of words of a fresh domain, and of its root
 abbrev pub zero_row : ℕ → Key
@@ -80,7 +81,7 @@ pub record MakesDomain (old new : Kernel) (slot space root : ℕ) : Type 0 where
   pub high : 15 ≤ root
   pub within : root < new.nodes
   pub was_none : at (domains old) root ≡ no_domain
-  pub domains_now : domains new ≡ with_at (domains old) root (born slot space)
+  pub domains_now : domains new ≡ with_at (domains old) root (born slot space regs descriptors)
   pub lives_now : lives new ≡ with_at (lives old) root (record { state = Running; count = 0 })
   pub roots_now : roots new ≡ with_at (roots old) slot (Some root)
   pub fixed_now : fixed_rows new ≡ written (fixed_rows old) (11 + slot / 16) (slot % 16) (DomainKey (record { 0 = root }))
@@ -92,8 +93,6 @@ pub record MakesDomain (old new : Kernel) (slot space root : ℕ) : Type 0 where
   pub entry_of_root : entry_at new.node_entries root ≡ Taken DomainOwner 1
   pub entry_of_regs : entry_at new.node_entries regs ≡ Taken DomainOwner 1
   pub entry_of_descriptors : entry_at new.node_entries descriptors ≡ Taken DomainOwner 1
-  pub regs_named : node_in (domain_rows new root 3) ≡ Some regs
-  pub descriptors_named : node_in (domain_rows new root 4) ≡ Some descriptors
   pub rest : KeepsRest old new
   pub number : new.machine.nodes_taken ≡ old.machine.nodes_taken + 3
   pub shares : (outside : Outside) (hand : List Key) → Shares old outside (key_of_space (Some space) ∷ hand) → Shares new outside hand
