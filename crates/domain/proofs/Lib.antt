@@ -11,3 +11,4 @@ pub mod FillingRoot
 pub mod Born
 pub mod Making
 pub mod Untaken
+pub mod Clearing

@@ -5,3 +5,4 @@ pub mod Rules
 pub mod Sets
 pub mod Buffers
 pub mod Life
+pub mod Ends

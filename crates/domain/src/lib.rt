@@ -4,6 +4,7 @@
 //! one changes that one domain in the table and nothing else.
 #![tactic(auto)]
 
+mod ends;
 mod keys;
 mod laws;
 mod life;
