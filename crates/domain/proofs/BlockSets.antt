@@ -1,7 +1,11 @@
 -- Which blocks several calls change, one after the other.
-use Rattle.std.proofs.Common.{ℕ, List, [], ◌∷◌, ◌++◌, inl, inr, ⊎_elim, ◌∙◌, Option, Some, None, refl, subst, ◌≡◌}
+use Rattle.std.proofs.Common.{ℕ, List, [], ◌∷◌, ◌++◌, inl, inr, ⊎_elim, ◌∙◌, Option, Some, None, refl, sym, subst, ◌≡◌}
 use Rattle.kernel_tables.specs.Kernel.{Kernel}
+use Rattle.unix_model.specs.Tables.{at}
+use Rattle.domain.specs.Domains.{domains}
 use Rattle.domain.specs.Buffers.{BufferBlocks}
+use Rattle.domain.specs.Ends.{node_gone, nodes_gone, ended_blocks}
+use Rattle.domain.proofs.Writing.{same_block}
 use Rattle.kernel_tables.specs.Blocks.{IsAmong, ChangesBlocks, key_block, machine_block, node_entry_block}
 
 pub among_left : (block : ℕ) (xs ys : List ℕ) → IsAmong block xs → IsAmong block (xs ++ ys)
@@ -43,3 +47,21 @@ born_changes b0 b1 b2 b3 b4 b5 b6 b7 size size2 size4 pages pages1 pages3 pages5
     (blocks_then b4 b6 b7 (node_entry_block size t ∷ machine_block ∷ key_block pages t ∷ []) (key_block pages table ∷ [])
     (blocks_then b4 b5 b6 (node_entry_block size t ∷ machine_block ∷ []) (key_block pages t ∷ []) (subst (λ s. ChangesBlocks b4 b5 (node_entry_block s t ∷ machine_block ∷ [])) s4 c5) (subst (λ p. ChangesBlocks b5 b6 (key_block p t ∷ [])) p5 c6))
     (subst (λ p. ChangesBlocks b6 b7 (key_block p table ∷ [])) p6 c7)))
+
+-- the blocks of a domain that becomes a zombie
+pub ended_changes : (kernel : Kernel) (root r d pages1 pages2 pages3 pages4 size3 size4 : ℕ) (b0 b1 b2 b3 b4 b5 : List (List ℕ))
+    → pages1 ≡ kernel.pages → pages2 ≡ kernel.pages → pages3 ≡ kernel.pages → pages4 ≡ kernel.pages → size3 ≡ kernel.size → size4 ≡ kernel.size
+    → (at (domains kernel) root).regs_node ≡ Some r → (at (domains kernel) root).descriptors_node ≡ Some d
+    → ChangesBlocks b0 b1 (key_block kernel.pages root ∷ []) → ChangesBlocks b1 b2 (key_block pages1 root ∷ []) → ChangesBlocks b2 b3 (key_block pages2 root ∷ [])
+    → ChangesBlocks b3 b4 (key_block pages3 r ∷ node_entry_block size3 r ∷ machine_block ∷ []) → ChangesBlocks b4 b5 (key_block pages4 d ∷ node_entry_block size4 d ∷ machine_block ∷ [])
+    → ChangesBlocks b0 b5 (ended_blocks kernel root)
+ended_changes kernel root r d pages1 pages2 pages3 pages4 size3 size4 b0 b1 b2 b3 b4 b5 p1 p2 p3 p4 s3 s4 regs descriptors c1 c2 c3 c4 c5 =
+    subst (λ o. ChangesBlocks b0 b5 (key_block kernel.pages root ∷ (nodes_gone kernel o ++ nodes_gone kernel (at (domains kernel) root).descriptors_node))) (sym regs)
+    (subst (λ o. ChangesBlocks b0 b5 (key_block kernel.pages root ∷ (nodes_gone kernel (Some r) ++ nodes_gone kernel o))) (sym descriptors)
+    (blocks_then b0 b3 b5 (key_block kernel.pages root ∷ []) (node_gone kernel r ++ node_gone kernel d)
+    (same_block kernel.pages pages2 root p2 (same_block kernel.pages pages1 root p1 c1 c2) c3)
+    (blocks_then b3 b4 b5 (node_gone kernel r) (node_gone kernel d)
+    (subst (λ p. ChangesBlocks b3 b4 (key_block p r ∷ node_entry_block kernel.size r ∷ machine_block ∷ [])) p3
+    (subst (λ s. ChangesBlocks b3 b4 (key_block pages3 r ∷ node_entry_block s r ∷ machine_block ∷ [])) s3 c4))
+    (subst (λ p. ChangesBlocks b4 b5 (key_block p d ∷ node_entry_block kernel.size d ∷ machine_block ∷ [])) p4
+    (subst (λ s. ChangesBlocks b4 b5 (key_block pages4 d ∷ node_entry_block s d ∷ machine_block ∷ [])) s4 c5)))))

@@ -12,3 +12,5 @@ pub mod Born
 pub mod Making
 pub mod Untaken
 pub mod Clearing
+pub mod Gone
+pub mod Ending

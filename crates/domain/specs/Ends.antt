@@ -1,5 +1,5 @@
 -- How domains end.
-use Rattle.std.specs.Prelude.{◌≡◌, ◌≢◌, ℕ, zero, suc, ◌+◌, ◌<◌, ◌⊎◌, nat_lt, true, false, Some, None, List, [], ◌∷◌, if◌then◌else◌}
+use Rattle.std.specs.Prelude.{◌≡◌, ◌≢◌, ℕ, zero, suc, ◌+◌, ◌<◌, ◌⊎◌, nat_lt, true, false, Option, Some, None, List, [], ◌∷◌, ◌++◌, if◌then◌else◌}
 use Rattle.kn_base.specs.declared.key.Key.{Key}
 use Rattle.kn_base.specs.declared.key.Key.TheVariants.{Null, Node}
 use Rattle.kernel_tables.specs.Kernel.{Kernel}
@@ -101,3 +101,12 @@ pub record MakesZombie (old new : Kernel) (root : ℕ) : Type 0 where
 -- the blocks that may change where a node is given back: its keys and its entry, and the machine's words
 abbrev pub node_gone : Kernel → ℕ → List ℕ
 node_gone kernel node = key_block kernel.pages node ∷ node_entry_block kernel.size node ∷ machine_block ∷ []
+
+abbrev pub nodes_gone : Kernel → Option ℕ → List ℕ
+nodes_gone kernel None = []
+nodes_gone kernel (Some node) = node_gone kernel node
+
+-- likewise where a domain becomes a zombie: those of its two nodes, and the keys of its root
+abbrev pub ended_blocks : Kernel → ℕ → List ℕ
+ended_blocks kernel root =
+    key_block kernel.pages root ∷ (nodes_gone kernel (at (domains kernel) root).regs_node ++ nodes_gone kernel (at (domains kernel) root).descriptors_node)

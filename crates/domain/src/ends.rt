@@ -1,6 +1,6 @@
 //! Domains end.
 
-ghost use Rattle.std.specs.Prelude.{◌≡◌, ℕ, ◌<◌, ◌+◌, true, [], ◌∷◌, List, Some};
+ghost use Rattle.std.specs.Prelude.{◌≡◌, ℕ, ◌<◌, ◌+◌, true, [], ◌∷◌, List, Some, MatchOption};
 ghost use Rattle.kn_base.specs.declared.key.Key.{Key};
 ghost use Rattle.kn_base.specs.Memory.{Memory};
 ghost use Rattle.kernel_tables.specs.Kernel.{Kernel, kernel_of};
@@ -8,9 +8,16 @@ ghost use Rattle.kernel_tables.specs.Rows.{entry_at, of_domain, domain_rows};
 ghost use Rattle.kernel_tables.specs.Blocks.{key_block, ChangesBlocks};
 ghost use Rattle.space_bank.specs.Bank.{BankGood};
 ghost use Rattle.space_bank.specs.Shares.{Outside, Shares, key_names_node};
-ghost use Rattle.domain.specs.Ends.{IsQuiet, IsNodeOnce, Clears, GivesBack, node_gone};
+ghost use Rattle.unix_model.specs.Tables.{at};
+ghost use Rattle.domain.specs.Domains.{roots};
+ghost use Rattle.domain.specs.Rules.{RowsGood};
+ghost use Rattle.domain.specs.Ends.{IsQuiet, IsNodeOnce, Clears, GivesBack, MayEnd, MakesZombie, node_gone, ended_blocks};
 
+use super::readers::slots::root_of;
+use super::readers::words::{DESCRIPTORS, REGISTERS, node_of_words};
+use super::setters::set_phase;
 use super::steps::put_row;
+use super::types::Phase;
 use kn_base::{Key, NodeId, Store};
 use space_bank::give_node;
 
@@ -42,4 +49,45 @@ fn give_row<T: Store>(store: &mut T, node: NodeId)
 {
     clear_row(store, node);
     give_node(store, node);
+}
+
+// Makes a zombie of a domain, by its root.
+fn end_process<T: Store>(store: &mut T, root: NodeId)
+    requires good { BankGood (kernel_of (T.memory store.old)) }
+    requires rows { RowsGood (domain_rows (kernel_of (T.memory store.old))) }
+    requires ends { MayEnd (kernel_of (T.memory store.old)) root.0 }
+    requires shares { (outside : Outside) × (hand : List Key) × Shares (kernel_of (T.memory store.old)) outside hand }
+    ensures ended { MakesZombie (kernel_of (T.memory store.old)) (kernel_of (T.memory store.new)) root.0 }
+    ensures rows { RowsGood (domain_rows (kernel_of (T.memory store.new))) }
+    ensures good { BankGood (kernel_of (T.memory store.new)) }
+    ensures blocks { ChangesBlocks (T.blocks store.old) (T.blocks store.new) (ended_blocks (kernel_of (T.memory store.old)) root.0) }
+    ensures keeps { T.keeps store.old store.new }
+{
+    let regs = node_of_words(store, root, REGISTERS);
+    let descriptors = node_of_words(store, root, DESCRIPTORS);
+    set_phase(store, root, Phase::Zombie);
+    put_row(store, root, 3, Key::Null);
+    put_row(store, root, 4, Key::Null);
+    give_row(store, regs);
+    give_row(store, descriptors);
+}
+
+/// Makes a zombie of the domain of a slot. Its process exits, has no descriptor, no space and no buffer, and each of its two
+/// nodes of words is named once. These nodes are given back.
+pub fn make_zombie<T: Store>(store: &mut T, slot: u8)
+    requires good { BankGood (kernel_of (T.memory store.old)) }
+    requires rows { RowsGood (domain_rows (kernel_of (T.memory store.old))) }
+    requires slot { slot < 64 }
+    requires ends { MatchOption (at (roots (kernel_of (T.memory store.old))) slot) ⊥ (λ root. MayEnd (kernel_of (T.memory store.old)) root) }
+    requires shares { (outside : Outside) × (hand : List Key) × Shares (kernel_of (T.memory store.old)) outside hand }
+    ensures ended { MatchOption (at (roots (kernel_of (T.memory store.old))) slot) ⊥ (λ root. MakesZombie (kernel_of (T.memory store.old)) (kernel_of (T.memory store.new)) root) }
+    ensures rows { RowsGood (domain_rows (kernel_of (T.memory store.new))) }
+    ensures good { BankGood (kernel_of (T.memory store.new)) }
+    ensures blocks { MatchOption (at (roots (kernel_of (T.memory store.old))) slot) ⊥ (λ root. ChangesBlocks (T.blocks store.old) (T.blocks store.new) (ended_blocks (kernel_of (T.memory store.old)) root)) }
+    ensures keeps { T.keeps store.old store.new }
+{
+    match root_of(store, slot) {
+        Some(root) => end_process(store, root),
+        None => unreachable!(),
+    }
 }
