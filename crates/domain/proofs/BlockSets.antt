@@ -1,10 +1,10 @@
 -- Which blocks several calls change, one after the other.
-use Rattle.std.proofs.Common.{ℕ, List, [], ◌∷◌, ◌++◌, inl, inr, ⊎_elim, ◌∙◌, Option, Some, None, refl, sym, subst, ◌≡◌}
+use Rattle.std.proofs.Common.{ℕ, List, [], ◌∷◌, ◌++◌, ◌+◌, ◌/◌, inl, inr, ⊎_elim, ◌∙◌, Option, Some, None, refl, sym, subst, ◌≡◌}
 use Rattle.kernel_tables.specs.Kernel.{Kernel}
 use Rattle.unix_model.specs.Tables.{at}
 use Rattle.domain.specs.Domains.{domains}
 use Rattle.domain.specs.Buffers.{BufferBlocks}
-use Rattle.domain.specs.Ends.{node_gone, nodes_gone, ended_blocks}
+use Rattle.domain.specs.Ends.{node_gone, nodes_gone, ended_blocks, dropped_blocks}
 use Rattle.domain.proofs.Writing.{same_block}
 use Rattle.kernel_tables.specs.Blocks.{IsAmong, ChangesBlocks, key_block, machine_block, node_entry_block}
 
@@ -65,3 +65,12 @@ ended_changes kernel root r d pages1 pages2 pages3 pages4 size3 size4 b0 b1 b2 b
     (subst (λ s. ChangesBlocks b3 b4 (key_block pages3 r ∷ node_entry_block s r ∷ machine_block ∷ [])) s3 c4))
     (subst (λ p. ChangesBlocks b4 b5 (key_block p d ∷ node_entry_block kernel.size d ∷ machine_block ∷ [])) p4
     (subst (λ s. ChangesBlocks b4 b5 (key_block pages4 d ∷ node_entry_block s d ∷ machine_block ∷ [])) s4 c5)))))
+
+-- the blocks of a domain that is dropped
+pub dropped_changes : (kernel : Kernel) (slot root pages1 size1 : ℕ) (b0 b1 b2 : List (List ℕ)) → pages1 ≡ kernel.pages → size1 ≡ kernel.size
+    → ChangesBlocks b0 b1 (key_block kernel.pages (11 + slot / 16) ∷ []) → ChangesBlocks b1 b2 (key_block pages1 root ∷ node_entry_block size1 root ∷ machine_block ∷ [])
+    → ChangesBlocks b0 b2 (dropped_blocks kernel slot root)
+dropped_changes kernel slot root pages1 size1 b0 b1 b2 p1 s1 c1 c2 =
+    blocks_then b0 b1 b2 (key_block kernel.pages (11 + slot / 16) ∷ []) (node_gone kernel root) c1
+    (subst (λ p. ChangesBlocks b1 b2 (key_block p root ∷ node_entry_block kernel.size root ∷ machine_block ∷ [])) p1
+    (subst (λ s. ChangesBlocks b1 b2 (key_block pages1 root ∷ node_entry_block s root ∷ machine_block ∷ [])) s1 c2))

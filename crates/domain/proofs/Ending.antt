@@ -191,17 +191,17 @@ module _ (k0 k1 k2 k3 : Kernel) (root r d : ℕ) (rows0 : RowsGood (domain_rows 
       no_meter_r = number_no_meter (domain_rows k3 r 2) (numbers_r 2 (omega arith))
 
       good4 : RowsGood (domain_rows k4)
-      good4 = subst RowsGood (sym g1.rows_now) (gone_good (domain_rows k3) r good3 nobody_r no_meter_r)
+      good4 = subst RowsGood (sym g1.rows_now) (gone_good (domain_rows k3) r good3 nobody_r)
 
       nobody_d4 : NobodyIn (domain_rows k4) d
-      nobody_d4 = subst (λ x. NobodyIn x d) (sym g1.rows_now) (gone_nobody (domain_rows k3) r good3 nobody_r no_meter_r d nobody_d)
+      nobody_d4 = subst (λ x. NobodyIn x d) (sym g1.rows_now) (gone_nobody (domain_rows k3) r good3 nobody_r d nobody_d)
 
       no_meter_d : is_meter (domain_rows k4 d 2) ≡ false
       no_meter_d = number_no_meter (domain_rows k4 d 2) (numbers_d4 2 (omega arith))
 
       module _ (k5 : Kernel) (g2 : GivesBack k4 k5 d) where
         pub ended_rows : RowsGood (domain_rows k5)
-        ended_rows = subst RowsGood (sym g2.rows_now) (gone_good (domain_rows k4) d good4 nobody_d4 no_meter_d)
+        ended_rows = subst RowsGood (sym g2.rows_now) (gone_good (domain_rows k4) d good4 nobody_d4)
 
         domains5 : domain_at (domain_rows k5) ≡ domain_at (domain_rows k3)
         domains5 = ap domain_at g2.rows_now ∙ gone_domains (domain_rows k4) d good4 nobody_d4 no_meter_d ∙ ap domain_at g1.rows_now ∙ gone_domains (domain_rows k3) r good3 nobody_r no_meter_r
@@ -231,6 +231,7 @@ module _ (k0 k1 k2 k3 : Kernel) (root r d : ℕ) (rows0 : RowsGood (domain_rows 
               ∙ g1.outside_now (and_outside (and_outside outside (Node (record { 0 = r }))) (Node (record { 0 = d })))
               ∙ outside3 outside;
           entries = λ node other_r other_d. g2.others node other_d ∙ g1.others node other_r ∙ ap (λ (k : Kernel). entry_at k.node_entries node) keys3;
+          entry_of_root = g2.others root (λ e. d_root (sym e)) ∙ g1.others root (λ e. r_root (sym e)) ∙ ap (λ (k : Kernel). entry_at k.node_entries root) keys3;
           free = λ node which. ⊎_elim
               (λ (e : node ≡ r). ap (λ n. is_free (entry_at k5.node_entries n)) e ∙ ap is_free (g2.others r (λ f. d_r (sym f))) ∙ g1.free)
               (λ (e : node ≡ d). ap (λ n. is_free (entry_at k5.node_entries n)) e ∙ g2.free) which;

@@ -16,7 +16,7 @@ use Rattle.domain.specs.Life.{Fills, FillsRoot, with_zeros, null_row, root_row}
 use Rattle.domain.proofs.Filling.{fills_key, fills_quiet, fills_to}
 use Rattle.domain.proofs.Writing.{number_outside, number_nothing}
 
-meter_outside : (outside : Outside) (slot : ℕ) → and_outside outside (Meter slot) ≡ outside
+pub meter_outside : (outside : Outside) (slot : ℕ) → and_outside outside (Meter slot) ≡ outside
 meter_outside outside slot =
     ap (λ p. let o : Outside = record { pages = p; nodes = λ id. outside.nodes id + 0 } in o) (fun_ext (λ id. add-zero (outside.pages id)))
     ∙ ap (λ n. let o : Outside = record { pages = outside.pages; nodes = n } in o) (fun_ext (λ id. add-zero (outside.nodes id)))

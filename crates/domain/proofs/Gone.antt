@@ -8,7 +8,7 @@ use Rattle.space_bank.specs.Shares.{Outside, NamesNothing}
 use Rattle.unix_model.specs.Tables.{at, with_at}
 use Rattle.unix_model.proofs.TableLaws.{with_at-same}
 use Rattle.domain.specs.Keys.{is_number, is_meter, node_in}
-use Rattle.domain.specs.Domains.{Domain, full_domain, domain_by, domain_at, words_of, lives_by}
+use Rattle.domain.specs.Domains.{Domain, no_domain, full_domain, domain_by, domain_at, words_of, lives_by}
 use Rattle.domain.specs.Rules.{RootGood, RootPlaces, RowsGood, NobodyIn, written}
 use Rattle.domain.specs.Life.{null_row, and_all}
 use Rattle.domain.specs.Ends.{IsQuiet, row_keys}
@@ -120,8 +120,8 @@ module _ (rows : ℕ → ℕ → Key) (root : ℕ) (good : RowsGood rows) (meter
   unnamed_lives fixed = lives_row_same rows fixed root (unnamed_row (rows root)) (ap is_meter (meter_kept (rows root)))
       (λ m. two_other (rows root) 3 4 6 Null Null (λ e. absurd (omega arith)) (λ e. absurd (omega arith)))
 
--- The row of a node that nobody names, and that is no root, is gone.
-module _ (rows : ℕ → ℕ → Key) (n : ℕ) (good : RowsGood rows) (nobody : NobodyIn rows n) (no_meter : is_meter (rows n 2) ≡ false) where
+-- The row of a node that nobody names is gone.
+module _ (rows : ℕ → ℕ → Key) (n : ℕ) (good : RowsGood rows) (nobody : NobodyIn rows n) where
   had : (a i m : ℕ) → node_in (with_at rows n null_row a i) ≡ Some m → node_in (rows a i) ≡ Some m
   had a i m = row_case rows n null_row (λ (r : ℕ → Key). node_in (r i) ≡ Some m → node_in (rows a i) ≡ Some m) a (λ e h. absurd (no_some m h)) (λ d h. h)
 
@@ -137,15 +137,21 @@ module _ (rows : ℕ → ℕ → Key) (n : ℕ) (good : RowsGood rows) (nobody :
     roots = λ m. row_case rows n null_row (λ (r : ℕ → Key). is_meter (r 2) ≡ true → RootGood r) m (λ e h. let no : false ≡ true = h in cc) (λ d. good.roots m);
   }
 
-  pub gone_domains : domain_at (with_at rows n null_row) ≡ domain_at rows
-  unfolding domain_at at
-  gone_domains =
-      domains_at rows n null_row nobody (λ h. no_some n h) (λ h. no_some n h)
-      ∙ with_at-same (domain_at rows) n (domain_by null_row (words_of rows None) (words_of rows None))
-      (no_root (rows n) (words_of rows (node_in (rows n 3))) (words_of rows (node_in (rows n 4))) no_meter)
+  -- it was no root, ..
+  module _ (no_meter : is_meter (rows n 2) ≡ false) where
+    pub gone_domains : domain_at (with_at rows n null_row) ≡ domain_at rows
+    unfolding domain_at at
+    gone_domains =
+        domains_at rows n null_row nobody (λ h. no_some n h) (λ h. no_some n h)
+        ∙ with_at-same (domain_at rows) n (domain_by null_row (words_of rows None) (words_of rows None))
+        (no_root (rows n) (words_of rows (node_in (rows n 3))) (words_of rows (node_in (rows n 4))) no_meter)
 
-  pub gone_lives : (fixed : ℕ → ℕ → Key) → lives_by (with_at rows n null_row) fixed ≡ lives_by rows fixed
-  gone_lives fixed = lives_row_same rows fixed n null_row (sym no_meter) (λ meter. let no : false ≡ true = sym no_meter ∙ meter in cc)
+    pub gone_lives : (fixed : ℕ → ℕ → Key) → lives_by (with_at rows n null_row) fixed ≡ lives_by rows fixed
+    gone_lives fixed = lives_row_same rows fixed n null_row (sym no_meter) (λ meter. let no : false ≡ true = sym no_meter ∙ meter in cc)
+
+  -- .. or one
+  pub dropped_domains : domain_at (with_at rows n null_row) ≡ with_at (domain_at rows) n no_domain
+  dropped_domains = domains_at rows n null_row nobody (λ h. no_some n h) (λ h. no_some n h)
 
 -- a row of keys that no tree and no count reads
 quiet_keys : (row : ℕ → Key) (n : ℕ) → ((i : ℕ) → i < n → (outside : Outside) → and_outside outside (row i) ≡ outside) → (outside : Outside) → and_all outside (row_keys row n) ≡ outside

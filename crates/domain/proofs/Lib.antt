@@ -14,3 +14,4 @@ pub mod Untaken
 pub mod Clearing
 pub mod Gone
 pub mod Ending
+pub mod Dropping

@@ -1,7 +1,7 @@
 -- How domains end.
-use Rattle.std.specs.Prelude.{◌≡◌, ◌≢◌, ℕ, zero, suc, ◌+◌, ◌<◌, ◌⊎◌, nat_lt, true, false, Option, Some, None, List, [], ◌∷◌, ◌++◌, if◌then◌else◌}
+use Rattle.std.specs.Prelude.{◌≡◌, ◌≢◌, ℕ, zero, suc, ◌+◌, ◌/◌, ◌%◌, ◌<◌, ◌⊎◌, nat_lt, true, false, Option, Some, None, List, [], ◌∷◌, ◌++◌, if◌then◌else◌}
 use Rattle.kn_base.specs.declared.key.Key.{Key}
-use Rattle.kn_base.specs.declared.key.Key.TheVariants.{Null, Node}
+use Rattle.kn_base.specs.declared.key.Key.TheVariants.{Null, Node, Start, Domain as DomainKey}
 use Rattle.kernel_tables.specs.Kernel.{Kernel}
 use Rattle.kernel_tables.specs.Rows.{entry_at, domain_rows, fixed_rows}
 use Rattle.kernel_tables.specs.declared.entry.NodeOwner.TheVariants.{Domain as DomainOwner}
@@ -13,7 +13,9 @@ use Rattle.space_bank.specs.Shares.{Outside, Shares, NamesNothing, key_names_nod
 use Rattle.kernel_forest.specs.Trees.{forest_of, outside_trees}
 use Rattle.unix_model.specs.Tables.{at, with_at}
 use Rattle.domain.specs.declared.types.Phase.TheVariants.{Exiting, Zombie}
-use Rattle.domain.specs.Domains.{Domain, domains, lives}
+use Rattle.domain.specs.Domains.{Domain, no_domain, domains, roots, Life, lives}
+use Rattle.domain.specs.declared.types.State.TheVariants.{Available}
+use Rattle.domain.specs.Rules.{written}
 use Rattle.domain.specs.Life.{null_row, and_all}
 
 -- A node of a domain is taken, and named once.
@@ -93,6 +95,7 @@ pub record MakesZombie (old new : Kernel) (root : ℕ) : Type 0 where
   pub outside_now : (outside : Outside)
       → outside_trees new (and_outside (and_outside outside (Node (record { 0 = regs }))) (Node (record { 0 = descriptors }))) ≡ outside_trees old outside
   pub entries : (node : ℕ) → node ≢ regs → node ≢ descriptors → entry_at new.node_entries node ≡ entry_at old.node_entries node
+  pub entry_of_root : entry_at new.node_entries root ≡ entry_at old.node_entries root
   pub free : (node : ℕ) → (node ≡ regs) ⊎ (node ≡ descriptors) → is_free (entry_at new.node_entries node) ≡ true
   pub rest : KeepsAllButNodes old new
   pub number : new.machine.nodes_taken + 2 ≡ old.machine.nodes_taken
@@ -110,3 +113,36 @@ nodes_gone kernel (Some node) = node_gone kernel node
 abbrev pub ended_blocks : Kernel → ℕ → List ℕ
 ended_blocks kernel root =
     key_block kernel.pages root ∷ (nodes_gone kernel (at (domains kernel) root).regs_node ++ nodes_gone kernel (at (domains kernel) root).descriptors_node)
+
+-- A domain may be dropped: it is a zombie without a space and a buffer, and its root is named once.
+pub record MayDrop (kernel : Kernel) (root : ℕ) : Type 0 where
+  pub live : (at (domains kernel) root).live ≡ true
+  pub zombie : (at (domains kernel) root).phase ≡ Zombie
+  pub wordless : (at (domains kernel) root).whole ≡ false
+  pub no_space : (at (domains kernel) root).space ≡ None
+  pub no_buffer : (at (domains kernel) root).buffer ≡ None
+  pub once : IsNodeOnce kernel root
+
+-- what is read where there is no domain and no service
+abbrev pub no_life : Life
+no_life = record { state = Available; count = 0 }
+
+-- The domain of a slot was dropped: its root was given back, and the slot is free. The key of the slot table and the keeper's in the
+-- root are gone. The trees are as they were.
+pub record DropsDomain (old new : Kernel) (slot root : ℕ) : Type 0 where
+  pub domains_now : domains new ≡ with_at (domains old) root no_domain
+  pub lives_now : lives new ≡ with_at (lives old) root no_life
+  pub roots_now : roots new ≡ with_at (roots old) slot None
+  pub fixed_now : fixed_rows new ≡ written (fixed_rows old) (11 + slot / 16) (slot % 16) Null
+  pub forest_now : forest_of new ≡ forest_of old
+  pub outside_now : (outside : Outside)
+      → outside_trees new (and_outside (and_outside outside (DomainKey (record { 0 = root }))) (Start (record { 0 = 1 }) (at (domains old) root).slot)) ≡ outside_trees old outside
+  pub entries : (node : ℕ) → node ≢ root → entry_at new.node_entries node ≡ entry_at old.node_entries node
+  pub free : is_free (entry_at new.node_entries root) ≡ true
+  pub rest : KeepsAllButNodes old new
+  pub number : new.machine.nodes_taken + 1 ≡ old.machine.nodes_taken
+  pub shares : (outside : Outside) (hand : List Key) → Shares old outside hand → Shares new outside hand
+
+-- the blocks that may change where a domain is dropped: those of its root, and the slot table
+abbrev pub dropped_blocks : Kernel → ℕ → ℕ → List ℕ
+dropped_blocks kernel slot root = key_block kernel.pages (11 + slot / 16) ∷ node_gone kernel root

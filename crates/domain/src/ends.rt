@@ -11,12 +11,12 @@ ghost use Rattle.space_bank.specs.Shares.{Outside, Shares, key_names_node};
 ghost use Rattle.unix_model.specs.Tables.{at};
 ghost use Rattle.domain.specs.Domains.{roots};
 ghost use Rattle.domain.specs.Rules.{RowsGood};
-ghost use Rattle.domain.specs.Ends.{IsQuiet, IsNodeOnce, Clears, GivesBack, MayEnd, MakesZombie, node_gone, ended_blocks};
+ghost use Rattle.domain.specs.Ends.{IsQuiet, IsNodeOnce, Clears, GivesBack, MayEnd, MakesZombie, MayDrop, DropsDomain, node_gone, ended_blocks, dropped_blocks};
 
 use super::readers::slots::root_of;
 use super::readers::words::{DESCRIPTORS, REGISTERS, node_of_words};
 use super::setters::set_phase;
-use super::steps::put_row;
+use super::steps::{put_row, put_slot};
 use super::types::Phase;
 use kn_base::{Key, NodeId, Store};
 use space_bank::give_node;
@@ -88,6 +88,43 @@ pub fn make_zombie<T: Store>(store: &mut T, slot: u8)
 {
     match root_of(store, slot) {
         Some(root) => end_process(store, root),
+        None => unreachable!(),
+    }
+}
+
+// Drops the domain of a slot, whose root is this one.
+fn drop_root<T: Store>(store: &mut T, slot: u8, root: NodeId)
+    requires good { BankGood (kernel_of (T.memory store.old)) }
+    requires rows { RowsGood (domain_rows (kernel_of (T.memory store.old))) }
+    requires slot { slot < 64 }
+    requires named { at (roots (kernel_of (T.memory store.old))) slot ≡ Some root.0 }
+    requires drops { MayDrop (kernel_of (T.memory store.old)) root.0 }
+    requires shares { (outside : Outside) × (hand : List Key) × Shares (kernel_of (T.memory store.old)) outside hand }
+    ensures dropped { DropsDomain (kernel_of (T.memory store.old)) (kernel_of (T.memory store.new)) slot root.0 }
+    ensures rows { RowsGood (domain_rows (kernel_of (T.memory store.new))) }
+    ensures good { BankGood (kernel_of (T.memory store.new)) }
+    ensures blocks { ChangesBlocks (T.blocks store.old) (T.blocks store.new) (dropped_blocks (kernel_of (T.memory store.old)) slot root.0) }
+    ensures keeps { T.keeps store.old store.new }
+{
+    put_slot(store, slot, Key::Null);
+    give_row(store, root);
+}
+
+/// Drops the zombie of a slot. Its root is named by the slot table alone, and is given back. The slot is free then.
+pub fn drop_domain<T: Store>(store: &mut T, slot: u8)
+    requires good { BankGood (kernel_of (T.memory store.old)) }
+    requires rows { RowsGood (domain_rows (kernel_of (T.memory store.old))) }
+    requires slot { slot < 64 }
+    requires drops { MatchOption (at (roots (kernel_of (T.memory store.old))) slot) ⊥ (λ root. MayDrop (kernel_of (T.memory store.old)) root) }
+    requires shares { (outside : Outside) × (hand : List Key) × Shares (kernel_of (T.memory store.old)) outside hand }
+    ensures dropped { MatchOption (at (roots (kernel_of (T.memory store.old))) slot) ⊥ (λ root. DropsDomain (kernel_of (T.memory store.old)) (kernel_of (T.memory store.new)) slot root) }
+    ensures rows { RowsGood (domain_rows (kernel_of (T.memory store.new))) }
+    ensures good { BankGood (kernel_of (T.memory store.new)) }
+    ensures blocks { MatchOption (at (roots (kernel_of (T.memory store.old))) slot) ⊥ (λ root. ChangesBlocks (T.blocks store.old) (T.blocks store.new) (dropped_blocks (kernel_of (T.memory store.old)) slot root)) }
+    ensures keeps { T.keeps store.old store.new }
+{
+    match root_of(store, slot) {
+        Some(root) => drop_root(store, slot, root),
         None => unreachable!(),
     }
 }

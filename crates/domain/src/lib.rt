@@ -13,7 +13,7 @@ mod setters;
 mod steps;
 mod types;
 
-pub use ends::make_zombie;
+pub use ends::{drop_domain, make_zombie};
 pub use laws::untaken_rows_are_good;
 pub use life::new_domain;
 pub use readers::buffer::read_buffer;
