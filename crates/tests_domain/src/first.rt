@@ -8,8 +8,7 @@ ghost use Rattle.space_bank.specs.Bank.{BankGood};
 ghost use Rattle.unix_model.specs.Tables.{at};
 ghost use Rattle.domain.specs.Rules.{RowsGood};
 ghost use Rattle.domain.specs.Domains.{domains};
-ghost use Rattle.domain.specs.Life.{born};
-ghost use Rattle.tests_domain.specs.First.{IsReady};
+ghost use Rattle.tests_domain.specs.First.{IsReady, IsFirst};
 
 use domain::new_domain;
 use kn_base::{NodeId, Store};
@@ -35,7 +34,7 @@ fn space_node<T: Store>(store: &mut T) -> NodeId
 /// Makes an empty machine of a store of zeros, and its first domain.
 pub fn first_domain<T: Store>(store: &mut T) -> NodeId
     requires zeros { T.memory store.old ≡ zero_memory (first_page 64 + 64) (node_count 64) }
-    ensures domain { (space : ℕ) × (at (domains (kernel_of (T.memory store.new))) result.0 ≡ born 5 space) }
+    ensures first { IsFirst (kernel_of (T.memory store.new)) result.0 }
     ensures whole { (at (domains (kernel_of (T.memory store.new))) result.0).whole ≡ true }
     ensures live { (at (domains (kernel_of (T.memory store.new))) result.0).live ≡ true }
     ensures no_buffer { (at (domains (kernel_of (T.memory store.new))) result.0).buffer ≡ None }

@@ -2,10 +2,14 @@
 //! calls one after the other are proved from what each promises.
 #![tactic(auto)]
 
+mod dying;
+#[cfg(test)]
+mod ends;
 #[cfg(test)]
 mod fields;
 mod first;
 mod setting;
 
+pub use dying::{dead_domain, drop_dead};
 pub use first::{SLOT, first_domain};
 pub use setting::{make_request, set_all, ten_phases};

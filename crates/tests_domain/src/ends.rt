@@ -1,0 +1,70 @@
+//! The end of a domain, over a store in memory.
+
+ghost use Rattle.std.specs.Prelude.{◌≡◌, ℕ, true, IfOk};
+ghost use Rattle.kn_base.specs.Memory.{Memory};
+ghost use Rattle.kernel_tables.specs.Kernel.{Kernel, kernel_of, first_page, node_count};
+ghost use Rattle.kernel_tables.specs.Rows.{domain_rows};
+ghost use Rattle.obj_store.specs.Store.{ram_memory};
+ghost use Rattle.space_bank.specs.Bank.{BankGood};
+ghost use Rattle.unix_model.specs.Tables.{at};
+ghost use Rattle.domain.specs.Rules.{RowsGood};
+ghost use Rattle.domain.specs.Domains.{domains};
+ghost use Rattle.tests_domain.specs.First.{IsDead};
+
+use super::dying::{dead_domain, drop_dead};
+use super::first::SLOT;
+use domain::{Phase, State, descriptor, phase_of, regs_of, root_of, space_of, state_of};
+use kernel_tables::first_bank_page;
+use kn_base::NodeId;
+use obj_store::{NoMemory, RamStore};
+use std::alloc::Global;
+use std::test::Fail;
+
+// A zombie, by its root.
+#[derive(Drop)]
+struct Dead {
+    store: RamStore,
+    root: NodeId,
+}
+
+// An empty machine whose one domain is a zombie.
+#[tactic(auto, unfolding(kernel_tables::specs::Kernel::first_page))]
+fn machine_with_zombie(alloc: Global) -> Result<Dead, Fail>
+    ensures dead { IfOk result (λ f. IsDead (kernel_of (ram_memory f.store)) f.root.0) }
+    ensures good { IfOk result (λ f. BankGood (kernel_of (ram_memory f.store))) }
+    ensures rows { IfOk result (λ f. RowsGood (domain_rows (kernel_of (ram_memory f.store)))) }
+    ensures live { IfOk result (λ f. (at (domains (kernel_of (ram_memory f.store))) f.root.0).live ≡ true) }
+{
+    let all_pages = first_bank_page(64) + 64;
+    match RamStore::new(alloc, all_pages, 1552) {
+        Ok(mut store) => {
+            let root = dead_domain(&mut store);
+            Ok(Dead { store, root })
+        }
+        Err(NoMemory) => Err(Fail::from(NoMemory)),
+    }
+}
+
+#[test]
+fn a_zombie_reads_as_zeros_and_none(rt: HostRuntime) -> Result<(), Fail> {
+    let Dead { store, root } = machine_with_zombie(rt.alloc())?;
+    assert_eq!(rt; root_of(&store, SLOT), Some(root));
+    assert_eq!(rt; phase_of(&store, root), Phase::Zombie);
+    assert_eq!(rt; state_of(&store, root), State::Running);
+    assert_eq!(rt; space_of(&store, root), None);
+    let regs = regs_of(&store, root);
+    assert_eq!(rt; regs.x, [0; 32]);
+    assert_eq!(rt; regs.pc, 0);
+    for number in 0..32 {
+        assert_eq!(rt; descriptor(&store, root, number), None);
+    }
+    Ok(())
+}
+
+#[test]
+fn a_dropped_zombie_leaves_its_slot_free(rt: HostRuntime) -> Result<(), Fail> {
+    let Dead { mut store, root } = machine_with_zombie(rt.alloc())?;
+    drop_dead(&mut store, root);
+    assert_eq!(rt; root_of(&store, SLOT), None);
+    Ok(())
+}
