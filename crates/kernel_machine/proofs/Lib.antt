@@ -3,3 +3,7 @@ pub mod MachineLaws
 pub mod MemoryLaws
 pub mod RingLaws
 pub mod SetLaws
+pub mod Counting
+pub mod PagesHeld
+pub mod PageHolders
+pub mod PageBounds

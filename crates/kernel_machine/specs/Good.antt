@@ -6,8 +6,8 @@ use Rattle.kernel_tables.specs.Kernel.{Kernel}
 use Rattle.kernel_tables.specs.Rows.{domain_rows}
 use Rattle.space_bank.specs.Bank.{BankGood}
 use Rattle.space_bank.specs.Fixed.{FixedNodes, UnusedGood}
-use Rattle.forest.specs.Forest.{NoneEmpty}
-use Rattle.kernel_forest.specs.Trees.{forest_of, TreesGood}
+use Rattle.forest.specs.Forest.{NoneEmpty, NoPageOutside}
+use Rattle.kernel_forest.specs.Trees.{forest_of, outside_trees, TreesGood}
 use Rattle.file_tables.specs.Roots.{named_by}
 use Rattle.file_tables.specs.Rows.{InodesGood, DescriptionsGood}
 use Rattle.domain.specs.Rules.{RowsGood}
@@ -26,6 +26,7 @@ use Rattle.kernel_machine.specs.View.{view, processes_in, inodes_in, description
 use Rattle.kernel_machine.specs.Processes.{SlotsGood, HoldingsGood}
 use Rattle.kernel_machine.specs.Trees.{RootsGood, KeepersGood}
 use Rattle.kernel_machine.specs.Counts.{InodesCounted, DescriptionsCounted}
+use Rattle.kernel_machine.specs.Held.{AllHeld, AllWhole}
 
 -- ---- who is parked
 
@@ -59,6 +60,7 @@ pub record MachineGood (calls : Calls) (machine : KernelMachine) : Type 0 where
   pub holdings : HoldingsGood machine.domains machine.forest machine.page_owner
   pub roots : RootsGood machine.forest machine.page_bytes machine.page_owner machine.inodes
   pub keepers : KeepersGood machine.forest
+  pub held : AllHeld machine.domains machine.forest machine.page_owner machine.inodes
   pub inodes_counted : InodesCounted machine.inodes (inodes_in machine) (descriptions_in machine)
   pub descriptions_counted : DescriptionsCounted machine.descriptions (processes_in machine)
   pub promises : machine.words.promised ≡ promised (view machine)
@@ -71,10 +73,12 @@ AllSpelled keys = (place : ℕ) → place < length keys → IsSome (slice_index_
 
 pub record Good (calls : Calls) (kernel : Kernel) : Type 0 where
   pub bank : BankGood kernel
+  pub whole : AllWhole kernel.bank
   pub unused : UnusedGood kernel.page_zero kernel.other_words
   pub spelled : AllSpelled kernel.keys
   pub fixed : FixedNodes kernel.keys
   pub trees : TreesGood kernel (named_by kernel.inodes) []
+  pub pages_inside : NoPageOutside (forest_of kernel) (outside_trees kernel (named_by kernel.inodes))
   pub filled : NoneEmpty (forest_of kernel).keys
   pub rows : RowsGood (domain_rows kernel)
   pub inodes : InodesGood kernel.inodes

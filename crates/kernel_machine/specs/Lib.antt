@@ -5,5 +5,7 @@ pub mod View
 pub mod Processes
 pub mod Trees
 pub mod Counts
+pub mod Held
 pub mod Good
 pub mod Laws
+pub mod Bounds

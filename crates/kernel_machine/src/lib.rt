@@ -1,10 +1,12 @@
 //! The machine that the kernel's tables hold, the flat state that it stands for, and what holds of it between turns.
 #![tactic(auto)]
 
+mod bounds;
 mod calls;
 mod changes;
 mod views;
 
+pub use bounds::{promised_is_free, taken_are_promised};
 pub use calls::{description_set, domain_set, inode_set, life_set, roots_differ};
 pub use changes::{
     description_written, files_written, inode_written, key_handed_over, numbers_written,

@@ -1,0 +1,112 @@
+-- Taken pages are at most the promised ones.
+use Rattle.std.proofs.Common.{◌≡◌, ℕ, ◌+◌, ◌%◌, ◌≤◌, Bool, true, false, Some, List, arith, refl, ap, ◌||◌}
+use Rattle.kernel_tables.specs.declared.row.Row.{Row}
+use Rattle.kernel_tables.specs.declared.row.Row.TheVariants.{Free as FreeRow, Used, Unspelled as UnspelledRow}
+use Rattle.kernel_tables.specs.declared.entry.Entry.{Entry}
+use Rattle.kernel_tables.specs.declared.entry.Entry.TheVariants.{Free, Taken, Fixed, Unspelled}
+use Rattle.kernel_tables.specs.declared.entry.PageOwner.{PageOwner}
+use Rattle.kernel_tables.specs.declared.inode.Inode.{Inode}
+use Rattle.kernel_tables.specs.declared.inode.InodeKind.{InodeKind}
+use Rattle.kernel_tables.specs.declared.inode.InodeKind.TheVariants.{File, Dir, Pipe, Console}
+use Rattle.kernel_tables.specs.Kernel.{Kernel, first_page, inode_at}
+use Rattle.kernel_tables.specs.Rows.{entry_at, fixed_rows}
+use Rattle.space_bank.specs.Bank.{EntriesGood}
+use Rattle.space_bank.specs.FreeList.{taken_one, taken_count}
+use Rattle.space_bank.proofs.FullLaws.{no_page-free}
+use Rattle.file_tables.specs.Rows.{IsInodeRow, IsOfKind}
+use Rattle.kernel_forest.specs.Trees.{forest_of}
+use Rattle.unix_model.specs.Calls.{Calls}
+use Rattle.unix_model.specs.Files.{inode_pages}
+use Rattle.unix_model.specs.Room.{promised, process_pages}
+use Rattle.unix_model.specs.Tables.{at, count_below, sum_below}
+use Rattle.unix_model.proofs.CountLaws.{one_if}
+use Rattle.domain.specs.Domains.{domains}
+use Rattle.kernel_machine.specs.Machine.{machine_of, roots_of, inodes_of, held}
+use Rattle.kernel_machine.specs.View.{view, processes_in, inodes_in}
+use Rattle.kernel_machine.specs.Good.{Good}
+use Rattle.kernel_machine.specs.Bounds as law
+use Rattle.kernel_machine.proofs.Counting.{count-less, count-or, count-any, sum-less, sum-list}
+use Rattle.kernel_machine.proofs.PagesHeld.{slot-has, inode-has, slot-few, inode-few}
+use Rattle.kernel_machine.proofs.PageHolders.{owned-page, file-whole, slots-have, inodes-have}
+
+abbrev pub is_taken : {O : Type 0} → Entry O → Bool
+is_taken (Free next) = false
+is_taken (Taken owner count) = true
+is_taken Fixed = false
+is_taken Unspelled = false
+
+pub untaken : {P : Type 0} → false ≡ true → P
+untaken e = cc
+
+one-taken : {O : Type 0} (entry : Entry O) → taken_one entry ≤ one_if (is_taken entry)
+one-taken (Free next) = omega arith
+one-taken (Taken owner count) = omega arith
+one-taken Fixed = omega arith
+one-taken Unspelled = omega arith
+
+-- what is taken, counted by the numbers of objects
+pub taken-counted : {O : Type 0} (entries : List (Entry O)) (base count first taken : ℕ) → EntriesGood entries base count first taken → taken ≤ count_below (λ n. is_taken (entry_at entries n)) count
+unfolding taken_count
+taken-counted entries base count first taken good =
+    let all = sum-list taken_one entries Unspelled (λ n. is_taken (entry_at entries n)) count (λ n below. one-taken (entry_at entries n)) (λ n low high. ap taken_one (good.unused n low high)) in
+    omega (arith, good.number)
+
+-- the places of a directory are whole
+whole-row : (number : ℕ) (there : Row Inode) (row : Inode) → IsInodeRow number there → held there ≡ Some row → row.kind ≡ Dir → row.length % 32 ≡ 0
+whole-row number FreeRow row right is dir = cc
+whole-row number (Used inode) row right is dir = let same : inode ≡ row = cc in whole-kind row row.kind dir (rw (← same) right.of_kind)
+  where
+    whole-kind : (row : Inode) (kind : InodeKind) → kind ≡ Dir → IsOfKind kind row → row.length % 32 ≡ 0
+    whole-kind row Dir dir right = right.whole_places
+    whole-kind row File dir right = cc
+    whole-kind row Pipe dir right = cc
+    whole-kind row Console dir right = cc
+whole-row number UnspelledRow row right is dir = absurd right
+
+module _ (calls : Calls) (kernel : Kernel) (good : Good calls kernel) where
+  abbrev first : ℕ
+  first = first_page kernel.size
+
+  taken-had : (n : ℕ) (entry : Entry PageOwner) → entry_at kernel.page_entries n ≡ entry → is_taken entry ≡ true → (slots-have calls kernel good (first + n) || inodes-have calls kernel good (first + n)) ≡ true
+  taken-had n (Free next) e taken = untaken taken
+  taken-had n (Taken owner count) e taken = owned-page calls kernel good n count owner e
+  taken-had n Fixed e taken = untaken taken
+  taken-had n Unspelled e taken = untaken taken
+
+  slots-few : count_below (λ n. slots-have calls kernel good (first + n)) kernel.size ≤ sum_below (λ slot. process_pages (at (view (machine_of kernel)).processes slot)) 64
+  unfolding slots-have view processes_in at machine_of
+  slots-few =
+      let all = count-any (λ slot n. slot-has (forest_of kernel).keys (domains kernel) (at (roots_of (fixed_rows kernel)) slot) (first + n)) kernel.size 64 in
+      let each = sum-less (λ slot. count_below (λ n. slot-has (forest_of kernel).keys (domains kernel) (at (roots_of (fixed_rows kernel)) slot) (first + n)) kernel.size)
+      (λ slot. process_pages (at (view (machine_of kernel)).processes slot)) 64
+      (λ slot below. slot-few (machine_of kernel) first kernel.size slot (at (roots_of (fixed_rows kernel)) slot) (λ root there. (good.machine.slots.each slot root there).fits)) in
+      omega arith
+
+  inodes-few : count_below (λ n. inodes-have calls kernel good (first + n)) kernel.size ≤ sum_below (λ number. inode_pages (at (view (machine_of kernel)).files.inodes number)) 1024
+  unfolding inodes-have view inodes_in at machine_of inodes_of
+  inodes-few =
+      let all = count-any (λ number n. inode-has (forest_of kernel).keys (at (inodes_of kernel) number) (first + n)) kernel.size 1024 in
+      let each = sum-less (λ number. count_below (λ n. inode-has (forest_of kernel).keys (at (inodes_of kernel) number) (first + n)) kernel.size)
+      (λ number. inode_pages (at (view (machine_of kernel)).files.inodes number)) 1024
+      (λ number below. inode-few (machine_of kernel) first kernel.size (at (inodes_of kernel) number) (λ row there. file-whole calls kernel good row.root)
+      (λ row there. whole-row number (inode_at kernel number) row (good.inodes.right number below) there)) in
+      omega arith
+
+  bounded : kernel.machine.pages_taken ≤ kernel.machine.promised
+  unfolding promised machine_of
+  bounded =
+      let counted = taken-counted kernel.page_entries first kernel.size kernel.machine.free_page kernel.machine.pages_taken good.bank.pages.entries_good in
+      let covered = count-less (λ n. is_taken (entry_at kernel.page_entries n)) (λ n. slots-have calls kernel good (first + n) || inodes-have calls kernel good (first + n)) kernel.size
+      (λ n below taken. taken-had n (entry_at kernel.page_entries n) refl taken) in
+      let both = count-or (λ n. slots-have calls kernel good (first + n)) (λ n. inodes-have calls kernel good (first + n)) kernel.size in
+      let promises = good.machine.promises in
+      omega (arith, slots-few, inodes-few)
+
+pub taken_are_promised : law.TakenArePromised
+taken_are_promised calls kernel good = bounded calls kernel good
+
+pub promised_is_free : law.PromisedIsFree
+promised_is_free calls kernel good less none =
+    let all = no_page-free kernel good.bank none in
+    let promises = good.bank.words.promises in
+    absurd (omega arith)

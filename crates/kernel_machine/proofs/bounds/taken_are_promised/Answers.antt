@@ -1,0 +1,5 @@
+use Rattle.kernel_machine.proofs.PageBounds.{taken_are_promised}
+use Rattle.kernel_machine.proofs.bounds.taken_are_promised.Goals as goal
+
+pub returns : goal.returns
+returns c = taken_are_promised
