@@ -1,5 +1,5 @@
 -- Counts below a limit, and counts of what is covered.
-use Rattle.std.proofs.Common.{◌≡◌, ℕ, zero, suc, ◌+◌, ◌<◌, ◌≤◌, Bool, true, false, Option, Some, None, List, [], ◌∷◌, length, get_or, arith, refl, sym, ap, ◌∙◌, inl, inr, ⊎_elim, ◌||◌, ◌==◌}
+use Rattle.std.proofs.Common.{◌≡◌, ℕ, zero, suc, ◌+◌, ◌*◌, ◌<◌, ◌≤◌, Bool, true, false, Option, Some, None, List, [], ◌∷◌, length, get_or, arith, refl, sym, ap, ◌∙◌, inl, inr, ⊎_elim, ◌||◌, ◌==◌}
 use Rattle.std.specs.List.{sum_by}
 use Rattle.std.proofs.lemmas.Bool.{cases_Bool, eqb-true, or_left, or_right}
 use Rattle.std.proofs.lemmas.Bool.Decides.{eqb_tells}
@@ -85,6 +85,11 @@ pub count-label : (first : ℕ) (label : Option ℕ) (limit : ℕ) → count_bel
 count-label first None limit = omega (arith, count-never (λ n. false) limit (λ n below. refl))
 count-label first (Some label) limit = count-one first label limit
 
+pub count-named : (label : Option ℕ) (limit : ℕ) → count_below (λ n. is_label n label) limit ≤ 1
+count-named label limit =
+    let same = count-less (λ n. is_label n label) (λ n. is_label (0 + n) label) limit (λ n below h. let e : 0 + n ≡ n = omega arith in ap (λ m. is_label m label) e ∙ h) in
+    omega (arith, count-label 0 label limit)
+
 -- a count from the other end
 count-shift : (test : ℕ → Bool) (n : ℕ) → count_below test (suc n) ≡ one_if (test 0) + count_below (λ k. test (suc k)) n
 unfolding count_below
@@ -104,3 +109,25 @@ sum-list f (x ∷ xs) d test (suc count) few none =
     let first : f x ≤ one_if (test 0) = few 0 (omega arith) in
     let rest = sum-list f xs d (λ n. test (suc n)) count (λ n below. few (suc n) (omega arith)) (λ n low high. none (suc n) (omega arith) (omega arith)) in
     omega (arith, sum_by-cons f x xs, count-shift test count)
+
+-- ---- sums of fours
+
+pub sum-fours : (test : ℕ → Bool) (limit : ℕ) → sum_below (λ k. 4 * one_if (test k)) limit ≡ 4 * count_below test limit
+unfolding sum_below count_below
+sum-fours test zero = refl
+sum-fours test (suc last) = omega (arith, sum-fours test last)
+
+pub sum-at-most-four : (f : ℕ → ℕ) (limit : ℕ) → ((k : ℕ) → k < limit → f k ≤ 4) → sum_below f limit ≤ 4 * limit
+unfolding sum_below
+sum-at-most-four f zero few = omega arith
+sum-at-most-four f (suc last) few = omega (arith, sum-at-most-four f last (λ k below. few k (omega arith)), few last (omega arith))
+
+pub sum-four-and-three : (f g : ℕ → ℕ) (limit : ℕ) → ((k : ℕ) → k < limit → f k ≤ 4 * g k + 3) → sum_below f limit ≤ 4 * sum_below g limit + 3 * limit
+unfolding sum_below
+sum-four-and-three f g zero less = omega arith
+sum-four-and-three f g (suc last) less = omega (arith, sum-four-and-three f g last (λ k below. less k (omega arith)), less last (omega arith))
+
+pub sum-four-and-one : (f g : ℕ → ℕ) (limit : ℕ) → ((k : ℕ) → k < limit → f k ≤ 4 * g k + 1) → sum_below f limit ≤ 4 * sum_below g limit + limit
+unfolding sum_below
+sum-four-and-one f g zero less = omega arith
+sum-four-and-one f g (suc last) less = omega (arith, sum-four-and-one f g last (λ k below. less k (omega arith)), less last (omega arith))

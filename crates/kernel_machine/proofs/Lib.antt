@@ -7,3 +7,7 @@ pub mod Counting
 pub mod PagesHeld
 pub mod PageHolders
 pub mod PageBounds
+pub mod NodesBelow
+pub mod NodesHeld
+pub mod NodeHolders
+pub mod NodeBounds

@@ -52,7 +52,7 @@ taken-counted entries base count first taken good =
     omega (arith, good.number)
 
 -- the places of a directory are whole
-whole-row : (number : ℕ) (there : Row Inode) (row : Inode) → IsInodeRow number there → held there ≡ Some row → row.kind ≡ Dir → row.length % 32 ≡ 0
+pub whole-row : (number : ℕ) (there : Row Inode) (row : Inode) → IsInodeRow number there → held there ≡ Some row → row.kind ≡ Dir → row.length % 32 ≡ 0
 whole-row number FreeRow row right is dir = cc
 whole-row number (Used inode) row right is dir = let same : inode ≡ row = cc in whole-kind row row.kind dir (rw (← same) right.of_kind)
   where
@@ -73,7 +73,7 @@ module _ (calls : Calls) (kernel : Kernel) (good : Good calls kernel) where
   taken-had n Fixed e taken = untaken taken
   taken-had n Unspelled e taken = untaken taken
 
-  slots-few : count_below (λ n. slots-have calls kernel good (first + n)) kernel.size ≤ sum_below (λ slot. process_pages (at (view (machine_of kernel)).processes slot)) 64
+  pub slots-few : count_below (λ n. slots-have calls kernel good (first + n)) kernel.size ≤ sum_below (λ slot. process_pages (at (view (machine_of kernel)).processes slot)) 64
   unfolding slots-have view processes_in at machine_of
   slots-few =
       let all = count-any (λ slot n. slot-has (forest_of kernel).keys (domains kernel) (at (roots_of (fixed_rows kernel)) slot) (first + n)) kernel.size 64 in

@@ -137,7 +137,7 @@ module _ (calls : Calls) (kernel : Kernel) (good : Good calls kernel) where
   unfolding owner_of
   node-zero = let fixed : entry_at kernel.node_entries 0 ≡ Fixed = good.bank.nodes.fixed 0 (omega arith) in rw fixed refl
 
-  space-real : (space : ℕ) (owner : Owner) → (forest_of kernel).owner (NodeObject space) ≡ Some owner → space ≢ 0
+  pub space-real : (space : ℕ) (owner : Owner) → (forest_of kernel).owner (NodeObject space) ≡ Some owner → space ≢ 0
   space-real space owner e zero_root =
       let no : None ≡ Some owner = sym node-zero ∙ ap (λ n. (forest_of kernel).owner (NodeObject n)) (sym zero_root) ∙ e in cc
 

@@ -1,5 +1,5 @@
 -- The pages that a domain or an inode has are at most those that it is promised.
-use Rattle.std.proofs.Common.{◌≡◌, ℕ, zero, suc, ◌+◌, ◌*◌, ◌^◌, ◌≤◌, Bool, false, Option, Some, None, List, [], ◌∷◌, length, arith, refl, ◌||◌, length-append, length-take-le}
+use Rattle.std.proofs.Common.{◌≡◌, ℕ, zero, suc, ◌+◌, ◌*◌, ◌^◌, ◌≤◌, Bool, false, Option, Some, None, List, [], ◌∷◌, length, arith, refl, ap, ◌∙◌, ◌||◌, length-append, length-take-le}
 use Rattle.std.specs.Option.{is_some}
 use Rattle.std.specs.Prelude.{option_map, ◌/◌, ◌%◌}
 use Rattle.kn_base.specs.declared.key.Key.{Key}
@@ -80,7 +80,7 @@ file-few keys first size root limit =
 
 -- ---- domains
 
-sent-live : (machine : KernelMachine) (domain : Domain) (request : Request) (bytes : List ℕ) (call : Option Call)
+pub sent-live : (machine : KernelMachine) (domain : Domain) (request : Request) (bytes : List ℕ) (call : Option Call)
     → live_pages (process_in machine domain) (sent_call request bytes call) ≡ mapped_pages (process_in machine domain).memory + 1
 sent-live machine domain request bytes None = refl
 sent-live machine domain request bytes (Some call) = refl
@@ -130,19 +130,22 @@ unfolding places_in
 places-long bytes zero = refl
 places-long bytes (suc n) = omega (arith, length-append (places_in bytes n) (place_in (part_at bytes (place_bytes * n) place_bytes) ∷ []), places-long bytes n)
 
+-- the pages that a file, and a directory, is promised
+pub file-pages : (machine : KernelMachine) (row : Inode) → ((number : ℕ) → length (mapped_bytes (at (file_memory machine row.root) number)) ≡ 4096)
+    → inode_pages (Some (inode_by machine row File)) ≡ pages_of row.length
+file-pages machine row whole = ap pages_of (file-long (file_memory machine row.root) whole row.length)
+
+pub places-pages : (machine : KernelMachine) (row : Inode) → row.length % 32 ≡ 0 → inode_pages (Some (inode_by machine row Dir)) ≡ pages_of row.length
+places-pages machine row places =
+    let all : 32 * (row.length / 32) ≡ row.length = omega arith in
+    ap (λ n. pages_of (32 * n)) (places-long (stored machine row) (row.length / 32)) ∙ ap pages_of all
+
 pub kind-few : (machine : KernelMachine) (first size : ℕ) (row : Inode) (kind : InodeKind)
     → ((number : ℕ) → length (mapped_bytes (at (file_memory machine row.root) number)) ≡ 4096) → (kind ≡ Dir → row.length % 32 ≡ 0)
     → count_below (λ n. kind-has machine.forest.keys row kind (first + n)) size ≤ inode_pages (Some (inode_by machine row kind))
 unfolding kind-has
-kind-few machine first size row File whole places =
-    let few = file-few machine.forest.keys first size row.root (pages_of row.length) in
-    let long = file-long (file_memory machine row.root) whole row.length in
-    rw long few
-kind-few machine first size row Dir whole places =
-    let few = file-few machine.forest.keys first size row.root (pages_of row.length) in
-    let long = places-long (stored machine row) (row.length / 32) in
-    let all : 32 * (row.length / 32) ≡ row.length = (let e = places refl in omega arith) in
-    rw (long, all) few
+kind-few machine first size row File whole places = rw (file-pages machine row whole) (file-few machine.forest.keys first size row.root (pages_of row.length))
+kind-few machine first size row Dir whole places = rw (places-pages machine row (places refl)) (file-few machine.forest.keys first size row.root (pages_of row.length))
 kind-few machine first size row Pipe whole places = count-label first (Some row.root) size
 kind-few machine first size row Console whole places = omega (arith, count-never (λ n. false) size (λ n below. refl))
 

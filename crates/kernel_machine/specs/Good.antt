@@ -26,7 +26,7 @@ use Rattle.kernel_machine.specs.View.{view, processes_in, inodes_in, description
 use Rattle.kernel_machine.specs.Processes.{SlotsGood, HoldingsGood}
 use Rattle.kernel_machine.specs.Trees.{RootsGood, KeepersGood}
 use Rattle.kernel_machine.specs.Counts.{InodesCounted, DescriptionsCounted}
-use Rattle.kernel_machine.specs.Held.{AllHeld, AllWhole}
+use Rattle.kernel_machine.specs.Held.{AllHeld, AllWhole, NodesHeld}
 
 -- ---- who is parked
 
@@ -81,6 +81,7 @@ pub record Good (calls : Calls) (kernel : Kernel) : Type 0 where
   pub pages_inside : NoPageOutside (forest_of kernel) (outside_trees kernel (named_by kernel.inodes))
   pub filled : NoneEmpty (forest_of kernel).keys
   pub rows : RowsGood (domain_rows kernel)
+  pub nodes_held : NodesHeld (domain_rows kernel) kernel.node_entries
   pub inodes : InodesGood kernel.inodes
   pub descriptions : DescriptionsGood kernel.descriptions
   pub machine : MachineGood calls (machine_of kernel)

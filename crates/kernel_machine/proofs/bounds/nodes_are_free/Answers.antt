@@ -1,0 +1,5 @@
+use Rattle.kernel_machine.proofs.NodeBounds.{nodes_are_free}
+use Rattle.kernel_machine.proofs.bounds.nodes_are_free.Goals as goal
+
+pub returns : goal.returns
+returns c = nodes_are_free
