@@ -11,3 +11,4 @@ pub mod NodesBelow
 pub mod NodesHeld
 pub mod NodeHolders
 pub mod NodeBounds
+pub mod GoodBounds

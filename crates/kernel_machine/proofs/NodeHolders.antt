@@ -9,9 +9,8 @@ use Rattle.kernel_tables.specs.declared.entry.Entry.TheVariants.{Taken}
 use Rattle.kernel_tables.specs.declared.inode.Inode.{Inode}
 use Rattle.kernel_tables.specs.declared.inode.InodeKind.{InodeKind}
 use Rattle.kernel_tables.specs.declared.inode.InodeKind.TheVariants.{File, Dir, Pipe, Console}
-use Rattle.kernel_tables.specs.Kernel.{Kernel, first_page, memory_page}
+use Rattle.kernel_tables.specs.Kernel.{Kernel}
 use Rattle.kernel_tables.specs.Rows.{entry_at, fixed_rows, domain_rows, of_domain}
-use Rattle.unix_model.specs.Calls.{Calls}
 use Rattle.unix_model.specs.Numbers.{pages_of}
 use Rattle.unix_model.specs.Tables.{at, any_below}
 use Rattle.forest.specs.Objects.{NodeObject, OfProcess, OfFile}
@@ -22,12 +21,12 @@ use Rattle.kernel_forest.specs.Trees.{forest_of, outside_trees, owner_of, node_t
 use Rattle.file_tables.specs.Roots.{named_by}
 use Rattle.domain.specs.Domains.{domains, domain_at, full_domain}
 use Rattle.domain.specs.Keys.{is_meter, node_in}
-use Rattle.kernel_machine.specs.Machine.{machine_of, roots_of, inodes_of, page_owner_of}
+use Rattle.kernel_machine.specs.Machine.{machine_of, roots_of, inodes_of}
 use Rattle.kernel_machine.specs.Held.{IsNodeOf}
 use Rattle.kernel_machine.specs.Trees.{HasTree}
-use Rattle.kernel_machine.specs.Good.{Good}
+use Rattle.kernel_machine.specs.Bounds.{Accounted}
 use Rattle.kernel_machine.proofs.Counting.{any-at, is_label}
-use Rattle.kernel_machine.proofs.PageHolders.{slot-below, inode-below, file-tree, space-real}
+use Rattle.kernel_machine.proofs.PageHolders.{slot-below, inode-below, space-real}
 use Rattle.kernel_machine.proofs.NodesBelow.{OnPage, on-page}
 use Rattle.kernel_machine.proofs.NodesHeld.{node_number, on_way, leads, space-has, own-has, slot-has, kind-has, inode-has}
 
@@ -65,7 +64,7 @@ tree-has keys row Dir node tree has = has
 tree-has keys row Pipe node tree has = absurd tree
 tree-has keys row Console node tree has = absurd tree
 
-module _ (calls : Calls) (kernel : Kernel) (good : Good calls kernel) where
+module _ (kernel : Kernel) (good : Accounted kernel) where
   abbrev keys : ℕ → Key
   keys = (forest_of kernel).keys
 
@@ -82,14 +81,14 @@ module _ (calls : Calls) (kernel : Kernel) (good : Good calls kernel) where
   unfolding slots-have machine_of
   domain-in-slot root node live has =
       let slot = (at (domains kernel) root).slot in
-      let there : at (roots_of (fixed_rows kernel)) slot ≡ Some root = good.machine.slots.all root live in
+      let there : at (roots_of (fixed_rows kernel)) slot ≡ Some root = good.machine.in_slots root live in
       any-at (λ k. slot-has keys own-rows (domains kernel) (at (roots_of (fixed_rows kernel)) k) node) 64 slot (slot-below (fixed_rows kernel) slot root there)
       (ap (λ own. slot-has keys own-rows (domains kernel) own node) there ∙ has)
 
   inode-there : (number : ℕ) (row : Inode) (node : ℕ) → at (inodes_of kernel) number ≡ Some row → kind-has keys row row.kind node ≡ true → inodes-have node ≡ true
   unfolding inodes-have inode-has
   inode-there number row node there has =
-      any-at (λ k. inode-has keys (at (inodes_of kernel) k) node) 1024 number (inode-below calls kernel good number row there) (ap (λ own. inode-has keys own node) there ∙ has)
+      any-at (λ k. inode-has keys (at (inodes_of kernel) k) node) 1024 number (inode-below kernel good number row there) (ap (λ own. inode-has keys own node) there ∙ has)
 
   -- a node that is reached on a way from a space, of which only the first page numbers are mapped
   space-there : (space limit node : ℕ) (way : List ℕ) → IsSpace (forest_of kernel) [] space → IsWay way → EndsAt keys space way (NodeObject node)
@@ -98,16 +97,16 @@ module _ (calls : Calls) (kernel : Kernel) (good : Good calls kernel) where
   space-there space limit node [] is_space is_way ends within =
       or_left (is_label node (Some space)) (any_below (λ number. leads keys space number node) limit) (eq-eqb space node (let same : space ≡ node = cc in same))
   space-there space limit node (digit ∷ way) is_space is_way ends within =
-      let p = on-page (forest_of kernel) [] good.trees.held.sound good.trees.held.rooted good.filled space is_space digit way is_way node ends in
+      let p = on-page (forest_of kernel) [] good.trees.sound good.trees.rooted good.filled space is_space digit way is_way node ends in
       or_right (is_label node (Some space)) (any_below (λ number. leads keys space number node) limit)
       (any-at (λ number. leads keys space number node) limit p.number (within p.number p.mapping p.below p.mapped) (leads-there keys space node p))
 
   process-node : (node : ℕ) → (forest_of kernel).owner (NodeObject node) ≡ Some OfProcess → slots-have node ≡ true
   unfolding machine_of slot-has
   process-node node owned =
-      let r = everything_is_reached (forest_of kernel) (outside_trees kernel (named_by kernel.inodes)) (NodeObject node) good.trees.held good.pages_inside (ap is_some owned) in
+      let r = everything_is_reached (forest_of kernel) (outside_trees kernel (named_by kernel.inodes)) (NodeObject node) good.trees good.pages_inside (ap is_some owned) in
       let space = r.0 in
-      let same = way_owner (forest_of kernel) good.trees.held.sound space r.1 r.3 (NodeObject node) r.4 in
+      let same = way_owner (forest_of kernel) good.trees.sound space r.1 r.3 (NodeObject node) r.4 in
       let h = good.machine.held.spaces space r.2 (sym same ∙ owned) in
       let root = h.0 in
       let has : space-has keys (Some space) (2 ^ 19) node ≡ true = space-there space (2 ^ 19) node r.1 r.2 r.3 r.4 (λ number mapping below mapped. below) in
@@ -117,17 +116,16 @@ module _ (calls : Calls) (kernel : Kernel) (good : Good calls kernel) where
   file-node : (node : ℕ) → (forest_of kernel).owner (NodeObject node) ≡ Some OfFile → inodes-have node ≡ true
   unfolding machine_of
   file-node node owned =
-      let r = everything_is_reached (forest_of kernel) (outside_trees kernel (named_by kernel.inodes)) (NodeObject node) good.trees.held good.pages_inside (ap is_some owned) in
+      let r = everything_is_reached (forest_of kernel) (outside_trees kernel (named_by kernel.inodes)) (NodeObject node) good.trees good.pages_inside (ap is_some owned) in
       let space = r.0 in
-      let same = way_owner (forest_of kernel) good.trees.held.sound space r.1 r.3 (NodeObject node) r.4 in
+      let same = way_owner (forest_of kernel) good.trees.sound space r.1 r.3 (NodeObject node) r.4 in
       let of_file : (forest_of kernel).owner (NodeObject space) ≡ Some OfFile = sym same ∙ owned in
       let h = good.machine.held.trees space r.2 of_file in
       let row = h.1 in
       let root_is : row.root ≡ space = h.4 in
-      let real : row.root ≢ 0 = λ e. space-real calls kernel good space OfFile of_file (sym root_is ∙ e) in
-      let tree = file-tree (forest_of kernel) (memory_page kernel) (page_owner_of (first_page kernel.size) kernel.page_entries) row row.kind (good.machine.roots.each h.0 row h.2) h.3 real in
+      let real : row.root ≢ 0 = λ e. space-real kernel good space OfFile of_file (sym root_is ∙ e) in
       let has : space-has keys (Some space) (pages_of row.length) node ≡ true = space-there space (pages_of row.length) node r.1 r.2 r.3 r.4
-      (λ number mapping below mapped. tree.within number mapping (ap (λ s. map_of keys s number) root_is ∙ mapped)) in
+      (λ number mapping below mapped. good.machine.within h.0 row h.2 h.3 real number mapping (ap (λ s. map_of keys s number) root_is ∙ mapped)) in
       inode-there h.0 row node h.2 (tree-has keys row row.kind node h.3 (ap (λ s. space-has keys (Some s) (pages_of row.length) node) root_is ∙ has))
 
   domain-node : (node : ℕ) → of_domain (entry_at kernel.node_entries node) ≡ true → slots-have node ≡ true

@@ -21,7 +21,7 @@ use Rattle.domain.specs.declared.types.Phase.TheVariants.{Run, Asked, Sent, Done
 use Rattle.domain.specs.Domains.{Domain}
 use Rattle.domain.specs.Keys.{node_in}
 use Rattle.kernel_machine.specs.Machine.{KernelMachine}
-use Rattle.kernel_machine.specs.Processes.{FitsPhase}
+use Rattle.kernel_machine.specs.Bounds.{HasEnded}
 use Rattle.kernel_machine.specs.Contents.{mapped_bytes}
 use Rattle.kernel_machine.specs.View.{memory_in, phase_in, process_in, file_memory, inode_by, inode_in}
 use Rattle.kernel_machine.proofs.Counting.{count-never, count-any, count-or, count-named, is_label, sum-less, sum-fours, sum-at-most-four}
@@ -127,7 +127,7 @@ none-few : (keys : ℕ → Key) (nodes : ℕ) (space : Option ℕ) → space ≡
 unfolding space-has
 none-few keys nodes space none = count-never (space-has keys space (2 ^ 19)) nodes (λ n below. rw none refl)
 
-process-few : (machine : KernelMachine) (nodes : ℕ) (bytes : ℕ → List ℕ) (domain : Domain) (phase : Phase) → FitsPhase domain phase
+process-few : (machine : KernelMachine) (nodes : ℕ) (bytes : ℕ → List ℕ) (domain : Domain) (phase : Phase) → (phase ≡ Zombie → (domain.space ≡ None) × (domain.buffer ≡ None))
     → count_below (space-has machine.forest.keys domain.space (2 ^ 19)) nodes ≤ 4 * live_pages (process_in machine domain) (phase_in bytes domain phase)
 unfolding process_in
 process-few machine nodes bytes domain Run fits = some-few machine nodes domain.space
@@ -135,9 +135,9 @@ process-few machine nodes bytes domain Asked fits = some-few machine nodes domai
 process-few machine nodes bytes domain Sent fits = rw (sent-live machine domain domain.request _ (call_of domain.request.call)) (some-few machine nodes domain.space)
 process-few machine nodes bytes domain Done fits = some-few machine nodes domain.space
 process-few machine nodes bytes domain Exiting fits = some-few machine nodes domain.space
-process-few machine nodes bytes domain Zombie fits = omega (arith, none-few machine.forest.keys nodes domain.space fits.space)
+process-few machine nodes bytes domain Zombie fits = omega (arith, none-few machine.forest.keys nodes domain.space (fits refl).0)
 
-pub slot-few : (machine : KernelMachine) (rows : ℕ → ℕ → Key) (nodes : ℕ) (there : Option ℕ) → ((root : ℕ) → there ≡ Some root → FitsPhase (at machine.domains root) (at machine.domains root).phase)
+pub slot-few : (machine : KernelMachine) (rows : ℕ → ℕ → Key) (nodes : ℕ) (there : Option ℕ) → ((root : ℕ) → there ≡ Some root → HasEnded (at machine.domains root))
     → count_below (slot-has machine.forest.keys rows machine.domains there) nodes ≤ 4 * process_pages (option_map (λ root. process_in machine (at machine.domains root)) there) + 3
 unfolding slot-has process_in
 slot-few machine rows nodes None fits = omega (arith, count-never (λ n. false) nodes (λ n below. refl))

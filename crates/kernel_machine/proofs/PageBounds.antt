@@ -12,10 +12,8 @@ use Rattle.kernel_tables.specs.Kernel.{Kernel, first_page, inode_at}
 use Rattle.kernel_tables.specs.Rows.{entry_at, fixed_rows}
 use Rattle.space_bank.specs.Bank.{EntriesGood}
 use Rattle.space_bank.specs.FreeList.{taken_one, taken_count}
-use Rattle.space_bank.proofs.FullLaws.{no_page-free}
 use Rattle.file_tables.specs.Rows.{IsInodeRow, IsOfKind}
 use Rattle.kernel_forest.specs.Trees.{forest_of}
-use Rattle.unix_model.specs.Calls.{Calls}
 use Rattle.unix_model.specs.Files.{inode_pages}
 use Rattle.unix_model.specs.Room.{promised, process_pages}
 use Rattle.unix_model.specs.Tables.{at, count_below, sum_below}
@@ -23,7 +21,7 @@ use Rattle.unix_model.proofs.CountLaws.{one_if}
 use Rattle.domain.specs.Domains.{domains}
 use Rattle.kernel_machine.specs.Machine.{machine_of, roots_of, inodes_of, held}
 use Rattle.kernel_machine.specs.View.{view, processes_in, inodes_in}
-use Rattle.kernel_machine.specs.Good.{Good}
+use Rattle.kernel_machine.specs.Bounds.{Accounted}
 use Rattle.kernel_machine.specs.Bounds as law
 use Rattle.kernel_machine.proofs.Counting.{count-less, count-or, count-any, sum-less, sum-list}
 use Rattle.kernel_machine.proofs.PagesHeld.{slot-has, inode-has, slot-few, inode-few}
@@ -63,50 +61,43 @@ whole-row number (Used inode) row right is dir = let same : inode ≡ row = cc i
     whole-kind row Console dir right = cc
 whole-row number UnspelledRow row right is dir = absurd right
 
-module _ (calls : Calls) (kernel : Kernel) (good : Good calls kernel) where
+module _ (kernel : Kernel) (good : Accounted kernel) where
   abbrev first : ℕ
   first = first_page kernel.size
 
-  taken-had : (n : ℕ) (entry : Entry PageOwner) → entry_at kernel.page_entries n ≡ entry → is_taken entry ≡ true → (slots-have calls kernel good (first + n) || inodes-have calls kernel good (first + n)) ≡ true
+  taken-had : (n : ℕ) (entry : Entry PageOwner) → entry_at kernel.page_entries n ≡ entry → is_taken entry ≡ true → (slots-have kernel good (first + n) || inodes-have kernel good (first + n)) ≡ true
   taken-had n (Free next) e taken = untaken taken
-  taken-had n (Taken owner count) e taken = owned-page calls kernel good n count owner e
+  taken-had n (Taken owner count) e taken = owned-page kernel good n count owner e
   taken-had n Fixed e taken = untaken taken
   taken-had n Unspelled e taken = untaken taken
 
-  pub slots-few : count_below (λ n. slots-have calls kernel good (first + n)) kernel.size ≤ sum_below (λ slot. process_pages (at (view (machine_of kernel)).processes slot)) 64
+  pub slots-few : count_below (λ n. slots-have kernel good (first + n)) kernel.size ≤ sum_below (λ slot. process_pages (at (view (machine_of kernel)).processes slot)) 64
   unfolding slots-have view processes_in at machine_of
   slots-few =
       let all = count-any (λ slot n. slot-has (forest_of kernel).keys (domains kernel) (at (roots_of (fixed_rows kernel)) slot) (first + n)) kernel.size 64 in
       let each = sum-less (λ slot. count_below (λ n. slot-has (forest_of kernel).keys (domains kernel) (at (roots_of (fixed_rows kernel)) slot) (first + n)) kernel.size)
       (λ slot. process_pages (at (view (machine_of kernel)).processes slot)) 64
-      (λ slot below. slot-few (machine_of kernel) first kernel.size slot (at (roots_of (fixed_rows kernel)) slot) (λ root there. (good.machine.slots.each slot root there).fits)) in
+      (λ slot below. slot-few (machine_of kernel) first kernel.size slot (at (roots_of (fixed_rows kernel)) slot) (λ root there. good.machine.zombies slot root there)) in
       omega arith
 
-  inodes-few : count_below (λ n. inodes-have calls kernel good (first + n)) kernel.size ≤ sum_below (λ number. inode_pages (at (view (machine_of kernel)).files.inodes number)) 1024
+  inodes-few : count_below (λ n. inodes-have kernel good (first + n)) kernel.size ≤ sum_below (λ number. inode_pages (at (view (machine_of kernel)).files.inodes number)) 1024
   unfolding inodes-have view inodes_in at machine_of inodes_of
   inodes-few =
       let all = count-any (λ number n. inode-has (forest_of kernel).keys (at (inodes_of kernel) number) (first + n)) kernel.size 1024 in
       let each = sum-less (λ number. count_below (λ n. inode-has (forest_of kernel).keys (at (inodes_of kernel) number) (first + n)) kernel.size)
       (λ number. inode_pages (at (view (machine_of kernel)).files.inodes number)) 1024
-      (λ number below. inode-few (machine_of kernel) first kernel.size (at (inodes_of kernel) number) (λ row there. file-whole calls kernel good row.root)
+      (λ number below. inode-few (machine_of kernel) first kernel.size (at (inodes_of kernel) number) (λ row there. file-whole kernel good row.root)
       (λ row there. whole-row number (inode_at kernel number) row (good.inodes.right number below) there)) in
       omega arith
 
-  bounded : kernel.machine.pages_taken ≤ kernel.machine.promised
-  unfolding promised machine_of
+  bounded : kernel.machine.pages_taken ≤ promised (view (machine_of kernel))
+  unfolding promised
   bounded =
       let counted = taken-counted kernel.page_entries first kernel.size kernel.machine.free_page kernel.machine.pages_taken good.bank.pages.entries_good in
-      let covered = count-less (λ n. is_taken (entry_at kernel.page_entries n)) (λ n. slots-have calls kernel good (first + n) || inodes-have calls kernel good (first + n)) kernel.size
+      let covered = count-less (λ n. is_taken (entry_at kernel.page_entries n)) (λ n. slots-have kernel good (first + n) || inodes-have kernel good (first + n)) kernel.size
       (λ n below taken. taken-had n (entry_at kernel.page_entries n) refl taken) in
-      let both = count-or (λ n. slots-have calls kernel good (first + n)) (λ n. inodes-have calls kernel good (first + n)) kernel.size in
-      let promises = good.machine.promises in
+      let both = count-or (λ n. slots-have kernel good (first + n)) (λ n. inodes-have kernel good (first + n)) kernel.size in
       omega (arith, slots-few, inodes-few)
 
-pub taken_are_promised : law.TakenArePromised
-taken_are_promised calls kernel good = bounded calls kernel good
-
-pub promised_is_free : law.PromisedIsFree
-promised_is_free calls kernel good less none =
-    let all = no_page-free kernel good.bank none in
-    let promises = good.bank.words.promises in
-    absurd (omega arith)
+pub pages_accounted : law.PagesAccounted
+pages_accounted kernel good = bounded kernel good

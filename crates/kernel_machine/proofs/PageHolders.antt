@@ -14,12 +14,11 @@ use Rattle.kernel_tables.specs.declared.inode.InodeKind.{InodeKind}
 use Rattle.kernel_tables.specs.declared.inode.InodeKind.TheVariants.{File, Dir, Pipe, Console}
 use Rattle.kernel_tables.specs.Kernel.{Kernel, first_page, memory_page}
 use Rattle.kernel_tables.specs.Rows.{entry_at, fixed_rows}
-use Rattle.unix_model.specs.Calls.{Calls}
 use Rattle.unix_model.specs.Limits.{slot_count}
 use Rattle.unix_model.specs.Numbers.{pages_of}
 use Rattle.unix_model.specs.Tables.{at, nothing, any_below}
 use Rattle.forest.specs.Objects.{Object, PageObject, NodeObject, Owner, OfProcess, OfFile}
-use Rattle.forest.specs.Forest.{Forest, EndsAt}
+use Rattle.forest.specs.Forest.{EndsAt}
 use Rattle.forest.specs.Labels.{page_number, shared_page}
 use Rattle.forest.specs.Walks.{Mapping, map_of, key_along, key_at_page, space_key, place_of, page_way, digits}
 use Rattle.forest.proofs.OwnLaws.{owned_object, found_at, mapped_named}
@@ -32,9 +31,9 @@ use Rattle.user_copy.specs.SpaceMemory.{memory_by, page_of}
 use Rattle.domain.specs.Domains.{domains}
 use Rattle.kernel_machine.specs.Machine.{machine_of, roots_of, inodes_of, page_owner_of}
 use Rattle.kernel_machine.specs.Contents.{mapped_bytes}
-use Rattle.kernel_machine.specs.Trees.{HasTree, IsRootOf, IsFileTree}
-use Rattle.kernel_machine.specs.View.{view, memory_in, file_memory, inode_in, inodes_in}
-use Rattle.kernel_machine.specs.Good.{Good}
+use Rattle.kernel_machine.specs.Trees.{HasTree}
+use Rattle.kernel_machine.specs.View.{memory_in, file_memory}
+use Rattle.kernel_machine.specs.Bounds.{Accounted}
 use Rattle.kernel_machine.proofs.Counting.{any-at, is_label}
 use Rattle.kernel_machine.proofs.PagesHeld.{maps, domain-has, slot-has, kind-has, inode-has}
 
@@ -77,14 +76,6 @@ slot-below fixed slot root e = ⊎_elim
     (λ (t : nat_lt slot slot_count ≡ false). absurd (let no : None ≡ Some root = rw t at e in cc))
     (cases_Bool (nat_lt slot slot_count))
 
--- the tree of an inode of this kind
-pub file-tree : (forest : Forest) (bytes : ℕ → List ℕ) (owner : ℕ → Option PageOwner) (row : Inode) (kind : InodeKind) → IsRootOf forest bytes owner row kind → HasTree kind → row.root ≢ 0
-    → IsFileTree forest.keys bytes row.root row.length
-file-tree forest bytes owner row File root tree there = (root there).2
-file-tree forest bytes owner row Dir root tree there = (root there).2
-file-tree forest bytes owner row Pipe root tree there = absurd tree
-file-tree forest bytes owner row Console root tree there = absurd tree
-
 tree-has : (keys : ℕ → Key) (row : Inode) (kind : InodeKind) (page : ℕ) → HasTree kind → maps keys (Some row.root) (pages_of row.length) page ≡ true → kind-has keys row kind page ≡ true
 unfolding kind-has
 tree-has keys row File page tree has = has
@@ -99,7 +90,7 @@ pipe-has keys row Dir page pipe e = cc
 pipe-has keys row Pipe page pipe e = eq-eqb row.root page e
 pipe-has keys row Console page pipe e = cc
 
-module _ (calls : Calls) (kernel : Kernel) (good : Good calls kernel) where
+module _ (kernel : Kernel) (good : Accounted kernel) where
   abbrev keys : ℕ → Key
   keys = (forest_of kernel).keys
 
@@ -113,19 +104,15 @@ module _ (calls : Calls) (kernel : Kernel) (good : Good calls kernel) where
   unfolding slots-have slot-has machine_of
   domain-in-slot root page live has =
       let slot = (at (domains kernel) root).slot in
-      let there : at (roots_of (fixed_rows kernel)) slot ≡ Some root = good.machine.slots.all root live in
+      let there : at (roots_of (fixed_rows kernel)) slot ≡ Some root = good.machine.in_slots root live in
       any-at (λ k. slot-has keys (domains kernel) (at (roots_of (fixed_rows kernel)) k) page) 64 slot (slot-below (fixed_rows kernel) slot root there)
       (ap (λ own. slot-has keys (domains kernel) own page) there ∙ has)
 
   pub inode-below : (number : ℕ) (row : Inode) → at (inodes_of kernel) number ≡ Some row → number < 1024
-  unfolding view inodes_in at machine_of
+  unfolding machine_of
   inode-below number row there = ⊎_elim
       (λ (t : number < 1024). t)
-      (λ (t : 1024 ≤ number). absurd (
-      let none : option_map (inode_in (machine_of kernel)) (inodes_of kernel number) ≡ None = good.machine.unix.inodes.end number t in
-      let some : option_map (inode_in (machine_of kernel)) (inodes_of kernel number) ≡ Some (inode_in (machine_of kernel) row) = ap (option_map (inode_in (machine_of kernel))) there in
-      let both : None ≡ Some (inode_in (machine_of kernel) row) = sym none ∙ some in
-      cc))
+      (λ (t : 1024 ≤ number). absurd (let both : None ≡ Some row = sym (good.machine.last number t) ∙ there in cc))
       (cases_lt number 1024)
 
   inode-there : (number : ℕ) (row : Inode) (page : ℕ) → at (inodes_of kernel) number ≡ Some row → kind-has keys row row.kind page ≡ true → inodes-have page ≡ true
@@ -144,7 +131,7 @@ module _ (calls : Calls) (kernel : Kernel) (good : Good calls kernel) where
   process-page : (page : ℕ) → (forest_of kernel).owner (PageObject page) ≡ Some OfProcess → slots-have page ≡ true
   unfolding machine_of domain-has
   process-page page owned =
-      let r = every_page_is_mapped (forest_of kernel) (outside_trees kernel (named_by kernel.inodes)) page good.trees.held good.pages_inside (ap is_some owned) in
+      let r = every_page_is_mapped (forest_of kernel) (outside_trees kernel (named_by kernel.inodes)) page good.trees good.pages_inside (ap is_some owned) in
       let space = r.0 in
       let number = r.1 in
       let h = good.machine.held.spaces space r.2 (r.3 ∙ owned) in
@@ -164,7 +151,7 @@ module _ (calls : Calls) (kernel : Kernel) (good : Good calls kernel) where
   file-page : (page : ℕ) → (forest_of kernel).owner (PageObject page) ≡ Some OfFile → inodes-have page ≡ true
   unfolding machine_of
   file-page page owned =
-      let r = every_page_is_mapped (forest_of kernel) (outside_trees kernel (named_by kernel.inodes)) page good.trees.held good.pages_inside (ap is_some owned) in
+      let r = every_page_is_mapped (forest_of kernel) (outside_trees kernel (named_by kernel.inodes)) page good.trees good.pages_inside (ap is_some owned) in
       let space = r.0 in
       let number = r.1 in
       let of_file : (forest_of kernel).owner (NodeObject space) ≡ Some OfFile = r.3 ∙ owned in
@@ -172,10 +159,9 @@ module _ (calls : Calls) (kernel : Kernel) (good : Good calls kernel) where
       let row = h.1 in
       let root_is : row.root ≡ space = h.4 in
       let real : row.root ≢ 0 = λ e. space-real space OfFile of_file (sym root_is ∙ e) in
-      let tree = file-tree (forest_of kernel) (memory_page kernel) (page_owner_of (first_page kernel.size) kernel.page_entries) row row.kind (good.machine.roots.each h.0 row h.2) h.3 real in
       let found : shared_page keys (row.root, number) ≡ Some page = ap (λ s. shared_page keys (s, number)) root_is ∙ r.5 in
       let m = mapped-there (map_of keys row.root number) page found in
-      inode-there h.0 row page h.2 (tree-has keys row row.kind page h.3 (mapped-has keys row.root (pages_of row.length) number page (tree.within number m.mapping m.is) found))
+      inode-there h.0 row page h.2 (tree-has keys row row.kind page h.3 (mapped-has keys row.root (pages_of row.length) number page (good.machine.within h.0 row h.2 h.3 real number m.mapping m.is) found))
 
   pipe-page : (page : ℕ) → at (page_owner_of (first_page kernel.size) kernel.page_entries) page ≡ Some PipePage → inodes-have page ≡ true
   unfolding machine_of
@@ -196,7 +182,7 @@ module _ (calls : Calls) (kernel : Kernel) (good : Good calls kernel) where
   page-whole : (page : ℕ) → (page ≢ 0 → IsSome ((forest_of kernel).owner (PageObject page))) → length (memory_page kernel page) ≡ 4096
   unfolding zero_page
   page-whole page owned = ⊎_elim
-      (λ (t : page ≡ 0). rw (t, good.unused.zero) (length-replicate {A = ℕ} 4096 0))
+      (λ (t : page ≡ 0). rw (t, good.zero) (length-replicate {A = ℕ} 4096 0))
       (λ (t : page ≢ 0).
       let inside = page_inside kernel page good.bank (owned t) in
       rw (ne_eqb page 0 t) (good.whole (page - first_page kernel.size) (let b = inside.below in omega (arith, good.bank.pages.pages))))
@@ -205,7 +191,7 @@ module _ (calls : Calls) (kernel : Kernel) (good : Good calls kernel) where
   step-owned : (upper : Key) (digit : ℕ) (way : List ℕ) (object : Object) (space : ℕ) → EndsAt keys space (digit ∷ way) object → IsSome ((forest_of kernel).owner object)
   step-owned upper digit way object space ends =
       let s = step keys (key_along keys (space_key space) way) digit object ends in
-      owned_object (forest_of kernel) good.trees.held.sound (place_of s.node digit) object s.here
+      owned_object (forest_of kernel) good.trees.sound (place_of s.node digit) object s.here
 
   page-owned : (space number : ℕ) (found : Mapping) → map_of keys space number ≡ Some found → found.page ≢ 0 → IsSome ((forest_of kernel).owner (PageObject found.page))
   unfolding page_way digits

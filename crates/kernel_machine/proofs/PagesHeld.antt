@@ -24,7 +24,7 @@ use Rattle.domain.specs.declared.types.Phase.{Phase}
 use Rattle.domain.specs.declared.types.Phase.TheVariants.{Run, Asked, Sent, Done, Exiting, Zombie}
 use Rattle.domain.specs.Domains.{Domain}
 use Rattle.kernel_machine.specs.Machine.{KernelMachine}
-use Rattle.kernel_machine.specs.Processes.{FitsPhase}
+use Rattle.kernel_machine.specs.Bounds.{HasEnded}
 use Rattle.kernel_machine.specs.Contents.{mapped_bytes, pages_in, file_in, place_in, places_in}
 use Rattle.kernel_machine.specs.View.{memory_in, phase_in, sent_call, process_in, file_memory, stored, inode_by, inode_in}
 use Rattle.kernel_machine.proofs.Counting.{count-never, count-any, count-or, count-label, is_label, sum-less, sum-ones, sum-at-most-one}
@@ -95,17 +95,17 @@ has-none : (keys : ℕ → Key) (first size : ℕ) (domain : Domain) → domain.
 unfolding domain-has maps
 has-none keys first size domain no_space no_buffer = count-never (λ n. domain-has keys domain (first + n)) size (λ n below. rw (no_space, no_buffer) refl)
 
-pub domain-few : (machine : KernelMachine) (first size : ℕ) (bytes : ℕ → List ℕ) (domain : Domain) (phase : Phase) → FitsPhase domain phase
+pub domain-few : (machine : KernelMachine) (first size : ℕ) (bytes : ℕ → List ℕ) (domain : Domain) (phase : Phase) → (phase ≡ Zombie → (domain.space ≡ None) × (domain.buffer ≡ None))
     → count_below (λ n. domain-has machine.forest.keys domain (first + n)) size ≤ live_pages (process_in machine domain) (phase_in bytes domain phase)
 domain-few machine first size bytes domain Run fits = has-few machine first size domain
 domain-few machine first size bytes domain Asked fits = has-few machine first size domain
 domain-few machine first size bytes domain Sent fits = rw (sent-live machine domain domain.request _ (call_of domain.request.call)) (has-few machine first size domain)
 domain-few machine first size bytes domain Done fits = has-few machine first size domain
 domain-few machine first size bytes domain Exiting fits = has-few machine first size domain
-domain-few machine first size bytes domain Zombie fits = omega (arith, has-none machine.forest.keys first size domain fits.space fits.buffer)
+domain-few machine first size bytes domain Zombie fits = omega (arith, has-none machine.forest.keys first size domain (fits refl).0 (fits refl).1)
 
 -- a slot and who is in it
-pub slot-few : (machine : KernelMachine) (first size slot : ℕ) (there : Option ℕ) → ((root : ℕ) → there ≡ Some root → FitsPhase (at machine.domains root) (at machine.domains root).phase)
+pub slot-few : (machine : KernelMachine) (first size slot : ℕ) (there : Option ℕ) → ((root : ℕ) → there ≡ Some root → HasEnded (at machine.domains root))
     → count_below (λ n. slot-has machine.forest.keys machine.domains there (first + n)) size ≤ process_pages (option_map (λ root. process_in machine (at machine.domains root)) there)
 unfolding slot-has process_in
 slot-few machine first size slot None fits = omega (arith, count-never (λ n. false) size (λ n below. refl))

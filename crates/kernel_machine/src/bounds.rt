@@ -1,6 +1,21 @@
 //! Laws of what a good machine has left.
 
-ghost use Rattle.kernel_machine.specs.Bounds.{NodesAreFew, NodesAreFree, PromisedIsFree, TakenArePromised};
+ghost use Rattle.kernel_machine.specs.Bounds.{GoodIsAccounted, NodesAccounted, NodesAreFree, PagesAccounted, PromisedIsFree, TakenArePromised};
+
+/// Where all that is taken is accounted for, taken pages are at most those that the flat state promises.
+pub fn pages_accounted()
+    ensures { PagesAccounted }
+{}
+
+/// Few nodes are taken, by the pages that the flat state promises.
+pub fn nodes_accounted()
+    ensures { NodesAccounted }
+{}
+
+/// All that a good machine has taken is accounted for.
+pub fn good_is_accounted()
+    ensures { GoodIsAccounted }
+{}
 
 /// The pages that are taken are at most those that are promised.
 pub fn taken_are_promised()
@@ -10,11 +25,6 @@ pub fn taken_are_promised()
 /// A page is free wherever a promised one isn't taken yet.
 pub fn promised_is_free()
     ensures { PromisedIsFree }
-{}
-
-/// Few nodes are taken, by the pages that are promised.
-pub fn nodes_are_few()
-    ensures { NodesAreFew }
 {}
 
 /// Enough nodes are free for any call: 65, and four for each page that isn't promised.

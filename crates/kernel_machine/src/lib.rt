@@ -6,7 +6,10 @@ mod calls;
 mod changes;
 mod views;
 
-pub use bounds::{nodes_are_few, nodes_are_free, promised_is_free, taken_are_promised};
+pub use bounds::{
+    good_is_accounted, nodes_accounted, nodes_are_free, pages_accounted, promised_is_free,
+    taken_are_promised,
+};
 pub use calls::{description_set, domain_set, inode_set, life_set, roots_differ};
 pub use changes::{
     description_written, files_written, inode_written, key_handed_over, numbers_written,

@@ -1,4 +1,4 @@
-use Rattle.kernel_machine.proofs.PageBounds.{promised_is_free}
+use Rattle.kernel_machine.proofs.GoodBounds.{promised_is_free}
 use Rattle.kernel_machine.proofs.bounds.promised_is_free.Goals as goal
 
 pub returns : goal.returns

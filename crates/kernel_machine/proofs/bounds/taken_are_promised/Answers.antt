@@ -1,4 +1,4 @@
-use Rattle.kernel_machine.proofs.PageBounds.{taken_are_promised}
+use Rattle.kernel_machine.proofs.GoodBounds.{taken_are_promised}
 use Rattle.kernel_machine.proofs.bounds.taken_are_promised.Goals as goal
 
 pub returns : goal.returns
