@@ -12,3 +12,4 @@ pub mod NodesHeld
 pub mod NodeHolders
 pub mod NodeBounds
 pub mod GoodBounds
+pub mod HeldLaws

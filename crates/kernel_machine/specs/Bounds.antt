@@ -17,7 +17,7 @@ use Rattle.unix_model.specs.Limits.{inode_count}
 use Rattle.unix_model.specs.Numbers.{pages_of}
 use Rattle.unix_model.specs.Room.{promised}
 use Rattle.unix_model.specs.Rules.{EndsAt}
-use Rattle.unix_model.specs.Tables.{at}
+use Rattle.unix_model.specs.Tables.{at, with_at}
 use Rattle.kernel_machine.specs.Machine.{KernelMachine, machine_of}
 use Rattle.kernel_machine.specs.View.{view}
 use Rattle.kernel_machine.specs.Trees.{HasTree}
@@ -80,3 +80,21 @@ abbrev pub NodesAreFree : Type 0
 NodesAreFree =
     (calls : Calls) (kernel : Kernel) → Good calls kernel
     → kernel.machine.nodes_taken + 15 + (65 + 4 * (kernel.size - kernel.machine.promised)) ≤ kernel.nodes
+
+-- ---- what is held stays held
+
+-- A domain changes and keeps its space and its buffer, ..
+abbrev pub HeldWithDomain : Type 0
+HeldWithDomain =
+    (machine : KernelMachine) (root : ℕ) (domain : Domain)
+    → domain.live ≡ (at machine.domains root).live → domain.space ≡ (at machine.domains root).space → domain.buffer ≡ (at machine.domains root).buffer
+    → AllHeld machine.domains machine.forest machine.page_owner machine.inodes
+    → AllHeld (with_at machine.domains root domain) machine.forest machine.page_owner machine.inodes
+
+-- .. or the row of an inode changes, and keeps its kind and its root.
+abbrev pub HeldWithInode : Type 0
+HeldWithInode =
+    (machine : KernelMachine) (number : ℕ) (inode row : Inode)
+    → at machine.inodes number ≡ Some inode → row.kind ≡ inode.kind → row.root ≡ inode.root
+    → AllHeld machine.domains machine.forest machine.page_owner machine.inodes
+    → AllHeld machine.domains machine.forest machine.page_owner (with_at machine.inodes number (Some row))

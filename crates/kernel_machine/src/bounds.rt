@@ -1,6 +1,6 @@
 //! Laws of what a good machine has left.
 
-ghost use Rattle.kernel_machine.specs.Bounds.{GoodIsAccounted, NodesAccounted, NodesAreFree, PagesAccounted, PromisedIsFree, TakenArePromised};
+ghost use Rattle.kernel_machine.specs.Bounds.{GoodIsAccounted, HeldWithDomain, HeldWithInode, NodesAccounted, NodesAreFree, PagesAccounted, PromisedIsFree, TakenArePromised};
 
 /// Where all that is taken is accounted for, taken pages are at most those that the flat state promises.
 pub fn pages_accounted()
@@ -30,4 +30,14 @@ pub fn promised_is_free()
 /// Enough nodes are free for any call: 65, and four for each page that isn't promised.
 pub fn nodes_are_free()
     ensures { NodesAreFree }
+{}
+
+/// A domain changes and keeps its space and its buffer: what is held stays held.
+pub fn held_with_domain()
+    ensures { HeldWithDomain }
+{}
+
+/// The row of an inode changes and keeps its kind and its root: what is held stays held.
+pub fn held_with_inode()
+    ensures { HeldWithInode }
 {}
