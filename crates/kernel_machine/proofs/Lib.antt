@@ -13,3 +13,4 @@ pub mod NodeHolders
 pub mod NodeBounds
 pub mod GoodBounds
 pub mod HeldLaws
+pub mod UntakenLaws

@@ -98,3 +98,11 @@ HeldWithInode =
     → at machine.inodes number ≡ Some inode → row.kind ≡ inode.kind → row.root ≡ inode.root
     → AllHeld machine.domains machine.forest machine.page_owner machine.inodes
     → AllHeld machine.domains machine.forest machine.page_owner (with_at machine.inodes number (Some row))
+
+-- Where nothing is taken, nobody has to hold anything.
+abbrev pub UntakenIsHeld : Type 0
+UntakenIsHeld =
+    (kernel : Kernel) → BankGood kernel → kernel.machine.pages_taken ≡ 0 → kernel.machine.nodes_taken ≡ 0
+    → AllHeld (machine_of kernel).domains (machine_of kernel).forest (machine_of kernel).page_owner (machine_of kernel).inodes
+    × NoPageOutside (forest_of kernel) (outside_trees kernel (named_by kernel.inodes))
+    × NodesHeld (domain_rows kernel) kernel.node_entries

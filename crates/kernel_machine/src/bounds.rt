@@ -1,6 +1,6 @@
 //! Laws of what a good machine has left.
 
-ghost use Rattle.kernel_machine.specs.Bounds.{GoodIsAccounted, HeldWithDomain, HeldWithInode, NodesAccounted, NodesAreFree, PagesAccounted, PromisedIsFree, TakenArePromised};
+ghost use Rattle.kernel_machine.specs.Bounds.{GoodIsAccounted, HeldWithDomain, HeldWithInode, NodesAccounted, NodesAreFree, PagesAccounted, PromisedIsFree, TakenArePromised, UntakenIsHeld};
 
 /// Where all that is taken is accounted for, taken pages are at most those that the flat state promises.
 pub fn pages_accounted()
@@ -40,4 +40,9 @@ pub fn held_with_domain()
 /// The row of an inode changes and keeps its kind and its root: what is held stays held.
 pub fn held_with_inode()
     ensures { HeldWithInode }
+{}
+
+/// Where nothing is taken, nobody has to hold anything.
+pub fn untaken_is_held()
+    ensures { UntakenIsHeld }
 {}
