@@ -1,5 +1,5 @@
 -- Counts below a limit, and counts of what is covered.
-use Rattle.std.proofs.Common.{◌≡◌, ℕ, zero, suc, ◌+◌, ◌*◌, ◌<◌, ◌≤◌, Bool, true, false, Option, Some, None, List, [], ◌∷◌, length, get_or, arith, refl, sym, ap, ◌∙◌, inl, inr, ⊎_elim, ◌||◌, ◌==◌}
+use Rattle.std.proofs.Common.{◌≡◌, ℕ, zero, suc, ◌+◌, ◌*◌, ◌<◌, ◌≤◌, Bool, true, false, Option, Some, None, List, [], ◌∷◌, length, get_or, arith, refl, sym, ap, subst, ◌∙◌, inl, inr, ⊎_elim, ◌||◌, ◌==◌}
 use Rattle.std.specs.List.{sum_by}
 use Rattle.std.proofs.lemmas.Bool.{cases_Bool, eqb-true, or_left, or_right}
 use Rattle.std.proofs.lemmas.Bool.Decides.{eqb_tells}
@@ -51,6 +51,15 @@ pub sum-less : (f g : ℕ → ℕ) (limit : ℕ) → ((k : ℕ) → k < limit �
 unfolding sum_below
 sum-less f g zero less = omega arith
 sum-less f g (suc last) less = omega (arith, sum-less f g last (λ k below. less k (omega arith)), less last (omega arith))
+
+-- one that is less makes the sum less
+pub sum-below-more : (f g : ℕ → ℕ) (limit n : ℕ) → n < limit → f n + 1 ≤ g n → ((k : ℕ) → k < limit → f k ≤ g k) → sum_below f limit + 1 ≤ sum_below g limit
+unfolding sum_below
+sum-below-more f g zero n below more less = absurd (omega arith)
+sum-below-more f g (suc last) n below more less = elim (eqb_tells n last) as (λ _. (sum_below f last + f last) + 1 ≤ sum_below g last + g last) [
+  | inl same ↦ let here : f last + 1 ≤ g last = subst (λ m. f m + 1 ≤ g m) same.1 more in omega (arith, sum-less f g last (λ k under. less k (omega arith)))
+  | inr apart ↦ omega (arith, sum-below-more f g last n (omega (arith, apart.1)) more (λ k under. less k (omega arith)), less last (omega arith))
+]
 
 -- a sum of ones
 pub sum-ones : (test : ℕ → Bool) (limit : ℕ) → sum_below (λ k. one_if (test k)) limit ≡ count_below test limit

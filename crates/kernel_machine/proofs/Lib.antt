@@ -14,3 +14,4 @@ pub mod NodeBounds
 pub mod GoodBounds
 pub mod HeldLaws
 pub mod UntakenLaws
+pub mod PagesLeft

@@ -90,14 +90,16 @@ module _ (kernel : Kernel) (good : Accounted kernel) where
       (λ row there. whole-row number (inode_at kernel number) row (good.inodes.right number below) there)) in
       omega arith
 
-  bounded : kernel.machine.pages_taken ≤ promised (view (machine_of kernel))
+  -- where slots have so much less than they are promised, so is less taken
+  pub bounded-by : (spare : ℕ) → count_below (λ n. slots-have kernel good (first + n)) kernel.size + spare ≤ sum_below (λ slot. process_pages (at (view (machine_of kernel)).processes slot)) 64
+      → kernel.machine.pages_taken + spare ≤ promised (view (machine_of kernel))
   unfolding promised
-  bounded =
+  bounded-by spare less =
       let counted = taken-counted kernel.page_entries first kernel.size kernel.machine.free_page kernel.machine.pages_taken good.bank.pages.entries_good in
       let covered = count-less (λ n. is_taken (entry_at kernel.page_entries n)) (λ n. slots-have kernel good (first + n) || inodes-have kernel good (first + n)) kernel.size
       (λ n below taken. taken-had n (entry_at kernel.page_entries n) refl taken) in
       let both = count-or (λ n. slots-have kernel good (first + n)) (λ n. inodes-have kernel good (first + n)) kernel.size in
-      omega (arith, slots-few, inodes-few)
+      omega (arith, less, inodes-few)
 
 pub pages_accounted : law.PagesAccounted
-pages_accounted kernel good = bounded kernel good
+pages_accounted kernel good = let few = bounded-by kernel good 0 (let slots = slots-few kernel good in omega arith) in omega arith

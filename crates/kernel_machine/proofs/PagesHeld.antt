@@ -53,12 +53,12 @@ inode-has keys (Some inode) page = kind-has keys inode inode.kind page
 
 -- ---- spaces
 
-label-mapped : (bytes : ℕ → List ℕ) (first size : ℕ) (found : Option Mapping) → count_below (λ n. is_label (first + n) (page_number found)) size ≤ one_if (is_some (option_map (page_of bytes) found))
+pub label-mapped : (bytes : ℕ → List ℕ) (first size : ℕ) (found : Option Mapping) → count_below (λ n. is_label (first + n) (page_number found)) size ≤ one_if (is_some (option_map (page_of bytes) found))
 label-mapped bytes first size None = omega (arith, count-never (λ n. false) size (λ n below. refl))
 label-mapped bytes first size (Some found) = count-label first (page_number (Some found)) size
 
 -- the pages that a process's space maps are at most its mapped page numbers
-space-few : (machine : KernelMachine) (first size : ℕ) (space : Option ℕ) → count_below (λ n. maps machine.forest.keys space (2 ^ 19) (first + n)) size ≤ mapped_pages (memory_in machine space)
+pub space-few : (machine : KernelMachine) (first size : ℕ) (space : Option ℕ) → count_below (λ n. maps machine.forest.keys space (2 ^ 19) (first + n)) size ≤ mapped_pages (memory_in machine space)
 unfolding maps mapped_pages memory_in memory_by at
 space-few machine first size None = omega (arith, count-never (λ n. false) size (λ n below. refl))
 space-few machine first size (Some space) =

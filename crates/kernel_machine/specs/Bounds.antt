@@ -56,6 +56,20 @@ pub record Accounted (kernel : Kernel) : Type 0 where
 abbrev pub PagesAccounted : Type 0
 PagesAccounted = (kernel : Kernel) → Accounted kernel → kernel.machine.pages_taken ≤ promised (view (machine_of kernel))
 
+-- A promised page isn't taken yet where a process holds no buffer, ..
+abbrev pub BufferIsLeft : Type 0
+BufferIsLeft =
+    (kernel : Kernel) (slot root : ℕ) → Accounted kernel → at (machine_of kernel).roots slot ≡ Some root
+    → (at (machine_of kernel).domains root).phase ≢ Zombie → (at (machine_of kernel).domains root).buffer ≡ None
+    → kernel.machine.pages_taken < promised (view (machine_of kernel))
+
+-- .. or its memory has a blank page, for which the page of zeros stands.
+abbrev pub BlankIsLeft : Type 0
+BlankIsLeft =
+    (kernel : Kernel) (slot root space page : ℕ) (found : Mapping) → Accounted kernel → at (machine_of kernel).roots slot ≡ Some root
+    → (at (machine_of kernel).domains root).space ≡ Some space → map_of (machine_of kernel).forest.keys space page ≡ Some found → found.page ≡ 0
+    → kernel.machine.pages_taken < promised (view (machine_of kernel))
+
 -- A process has at most three nodes of its domain, one root and four nodes for each page that it maps, and an inode at most one
 -- root and four nodes for each of its pages. So few nodes are taken, by the pages that are promised.
 abbrev pub NodesAccounted : Type 0

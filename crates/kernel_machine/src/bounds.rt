@@ -1,10 +1,20 @@
 //! Laws of what a good machine has left.
 
-ghost use Rattle.kernel_machine.specs.Bounds.{GoodIsAccounted, HeldWithDomain, HeldWithInode, NodesAccounted, NodesAreFree, PagesAccounted, PromisedIsFree, TakenArePromised, UntakenIsHeld};
+ghost use Rattle.kernel_machine.specs.Bounds.{BlankIsLeft, BufferIsLeft, GoodIsAccounted, HeldWithDomain, HeldWithInode, NodesAccounted, NodesAreFree, PagesAccounted, PromisedIsFree, TakenArePromised, UntakenIsHeld};
 
 /// Where all that is taken is accounted for, taken pages are at most those that the flat state promises.
 pub fn pages_accounted()
     ensures { PagesAccounted }
+{}
+
+/// A promised page isn't taken yet where a process holds no buffer.
+pub fn buffer_is_left()
+    ensures { BufferIsLeft }
+{}
+
+/// A promised page isn't taken yet where the memory of a process has a blank page.
+pub fn blank_is_left()
+    ensures { BlankIsLeft }
 {}
 
 /// Few nodes are taken, by the pages that the flat state promises.
