@@ -15,3 +15,4 @@ pub mod GoodBounds
 pub mod HeldLaws
 pub mod UntakenLaws
 pub mod PagesLeft
+pub mod SharedPages

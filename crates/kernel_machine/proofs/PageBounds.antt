@@ -1,5 +1,5 @@
 -- Taken pages are at most the promised ones.
-use Rattle.std.proofs.Common.{◌≡◌, ℕ, ◌+◌, ◌%◌, ◌≤◌, Bool, true, false, Some, List, arith, refl, ap, ◌||◌}
+use Rattle.std.proofs.Common.{◌≡◌, ℕ, ◌+◌, ◌%◌, ◌<◌, ◌≤◌, Bool, true, false, Some, List, arith, refl, ap, ◌||◌}
 use Rattle.kernel_tables.specs.declared.row.Row.{Row}
 use Rattle.kernel_tables.specs.declared.row.Row.TheVariants.{Free as FreeRow, Used, Unspelled as UnspelledRow}
 use Rattle.kernel_tables.specs.declared.entry.Entry.{Entry}
@@ -90,16 +90,24 @@ module _ (kernel : Kernel) (good : Accounted kernel) where
       (λ row there. whole-row number (inode_at kernel number) row (good.inodes.right number below) there)) in
       omega arith
 
-  -- where slots have so much less than they are promised, so is less taken
-  pub bounded-by : (spare : ℕ) → count_below (λ n. slots-have kernel good (first + n)) kernel.size + spare ≤ sum_below (λ slot. process_pages (at (view (machine_of kernel)).processes slot)) 64
+  -- where all that is taken is had by inodes, or else by what is so much less than slots are promised, so is less taken
+  pub covered-by : (have : ℕ → Bool) (spare : ℕ) → ((n : ℕ) → n < kernel.size → is_taken (entry_at kernel.page_entries n) ≡ true → (have (first + n) || inodes-have kernel good (first + n)) ≡ true)
+      → count_below (λ n. have (first + n)) kernel.size + spare ≤ sum_below (λ slot. process_pages (at (view (machine_of kernel)).processes slot)) 64
       → kernel.machine.pages_taken + spare ≤ promised (view (machine_of kernel))
   unfolding promised
-  bounded-by spare less =
+  covered-by have spare has less =
       let counted = taken-counted kernel.page_entries first kernel.size kernel.machine.free_page kernel.machine.pages_taken good.bank.pages.entries_good in
-      let covered = count-less (λ n. is_taken (entry_at kernel.page_entries n)) (λ n. slots-have kernel good (first + n) || inodes-have kernel good (first + n)) kernel.size
-      (λ n below taken. taken-had n (entry_at kernel.page_entries n) refl taken) in
-      let both = count-or (λ n. slots-have kernel good (first + n)) (λ n. inodes-have kernel good (first + n)) kernel.size in
+      let covered = count-less (λ n. is_taken (entry_at kernel.page_entries n)) (λ n. have (first + n) || inodes-have kernel good (first + n)) kernel.size has in
+      let both = count-or (λ n. have (first + n)) (λ n. inodes-have kernel good (first + n)) kernel.size in
       omega (arith, less, inodes-few)
+
+  pub taken-has : (n : ℕ) → is_taken (entry_at kernel.page_entries n) ≡ true → (slots-have kernel good (first + n) || inodes-have kernel good (first + n)) ≡ true
+  taken-has n taken = taken-had n (entry_at kernel.page_entries n) refl taken
+
+  -- where slots have so much less than they are promised
+  pub bounded-by : (spare : ℕ) → count_below (λ n. slots-have kernel good (first + n)) kernel.size + spare ≤ sum_below (λ slot. process_pages (at (view (machine_of kernel)).processes slot)) 64
+      → kernel.machine.pages_taken + spare ≤ promised (view (machine_of kernel))
+  bounded-by spare less = covered-by (slots-have kernel good) spare (λ n below taken. taken-has n taken) less
 
 pub pages_accounted : law.PagesAccounted
 pages_accounted kernel good = let few = bounded-by kernel good 0 (let slots = slots-few kernel good in omega arith) in omega arith

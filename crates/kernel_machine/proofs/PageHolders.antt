@@ -1,5 +1,5 @@
 -- Each taken page is one that a domain or an inode has.
-use Rattle.std.proofs.Common.{◌≡◌, ◌≢◌, ℕ, zero, suc, ◌+◌, ◌-◌, ◌^◌, ◌<◌, ◌≤◌, Bool, true, false, Option, Some, None, List, ◌∷◌, length, arith, refl, sym, ap, ◌∙◌, ⊎_elim, ◌||◌, ◌/◌, ◌%◌, nat_lt}
+use Rattle.std.proofs.Common.{◌≡◌, ◌≢◌, ℕ, zero, suc, ◌+◌, ◌-◌, ◌^◌, ◌<◌, ◌≤◌, Bool, true, false, Option, Some, None, List, [], ◌∷◌, length, arith, refl, sym, ap, ◌∙◌, ⊎_elim, ◌||◌, ◌/◌, ◌%◌, nat_lt}
 use Rattle.std.specs.Option.{is_some, IsSome}
 use Rattle.std.specs.Prelude.{option_map}
 use Rattle.std.proofs.lemmas.Bool.{cases_Bool, cases_lt, cases_eq, ltb-true, le-ltb, eq-eqb, ne_eqb, or_left, or_right}
@@ -18,7 +18,7 @@ use Rattle.unix_model.specs.Limits.{slot_count}
 use Rattle.unix_model.specs.Numbers.{pages_of}
 use Rattle.unix_model.specs.Tables.{at, nothing, any_below}
 use Rattle.forest.specs.Objects.{Object, PageObject, NodeObject, Owner, OfProcess, OfFile}
-use Rattle.forest.specs.Forest.{EndsAt}
+use Rattle.forest.specs.Forest.{IsSpace, EndsAt}
 use Rattle.forest.specs.Labels.{page_number, shared_page}
 use Rattle.forest.specs.Walks.{Mapping, map_of, key_along, key_at_page, space_key, place_of, page_way, digits}
 use Rattle.forest.proofs.OwnLaws.{owned_object, found_at, mapped_named}
@@ -148,20 +148,23 @@ module _ (kernel : Kernel) (good : Accounted kernel) where
       domain-in-slot root page h.1 (or_right (maps keys (at (domains kernel) root).space (2 ^ 19) page) (is_label page (at (domains kernel) root).buffer)
       (ap (is_label page) h.2 ∙ eq-eqb page page refl))
 
-  file-page : (page : ℕ) → (forest_of kernel).owner (PageObject page) ≡ Some OfFile → inodes-have page ≡ true
+  -- a page that is found in a tree of files
+  pub file-place : (space number page : ℕ) → IsSpace (forest_of kernel) [] space → (forest_of kernel).owner (NodeObject space) ≡ Some OfFile → shared_page keys (space, number) ≡ Some page
+      → inodes-have page ≡ true
   unfolding machine_of
-  file-page page owned =
-      let r = every_page_is_mapped (forest_of kernel) (outside_trees kernel (named_by kernel.inodes)) page good.trees good.pages_inside (ap is_some owned) in
-      let space = r.0 in
-      let number = r.1 in
-      let of_file : (forest_of kernel).owner (NodeObject space) ≡ Some OfFile = r.3 ∙ owned in
-      let h = good.machine.held.trees space r.2 of_file in
+  file-place space number page is_space of_file there =
+      let h = good.machine.held.trees space is_space of_file in
       let row = h.1 in
       let root_is : row.root ≡ space = h.4 in
       let real : row.root ≢ 0 = λ e. space-real space OfFile of_file (sym root_is ∙ e) in
-      let found : shared_page keys (row.root, number) ≡ Some page = ap (λ s. shared_page keys (s, number)) root_is ∙ r.5 in
+      let found : shared_page keys (row.root, number) ≡ Some page = ap (λ s. shared_page keys (s, number)) root_is ∙ there in
       let m = mapped-there (map_of keys row.root number) page found in
       inode-there h.0 row page h.2 (tree-has keys row row.kind page h.3 (mapped-has keys row.root (pages_of row.length) number page (good.machine.within h.0 row h.2 h.3 real number m.mapping m.is) found))
+
+  file-page : (page : ℕ) → (forest_of kernel).owner (PageObject page) ≡ Some OfFile → inodes-have page ≡ true
+  file-page page owned =
+      let r = every_page_is_mapped (forest_of kernel) (outside_trees kernel (named_by kernel.inodes)) page good.trees good.pages_inside (ap is_some owned) in
+      file-place r.0 r.1 page r.2 (r.3 ∙ owned) r.5
 
   pipe-page : (page : ℕ) → at (page_owner_of (first_page kernel.size) kernel.page_entries) page ≡ Some PipePage → inodes-have page ≡ true
   unfolding machine_of

@@ -5,6 +5,7 @@ use Rattle.kernel_tables.specs.declared.inode.Inode.{Inode}
 use Rattle.kernel_tables.specs.Kernel.{Kernel}
 use Rattle.kernel_tables.specs.Rows.{domain_rows}
 use Rattle.space_bank.specs.Bank.{BankGood, NoneFree}
+use Rattle.forest.specs.Calls.{IsOwn}
 use Rattle.forest.specs.Forest.{Held, NoneEmpty, NoPageOutside}
 use Rattle.forest.specs.Walks.{Mapping, map_of}
 use Rattle.kernel_forest.specs.Trees.{forest_of, outside_trees}
@@ -68,6 +69,14 @@ abbrev pub BlankIsLeft : Type 0
 BlankIsLeft =
     (kernel : Kernel) (slot root space page : ℕ) (found : Mapping) → Accounted kernel → at (machine_of kernel).roots slot ≡ Some root
     → (at (machine_of kernel).domains root).space ≡ Some space → map_of (machine_of kernel).forest.keys space page ≡ Some found → found.page ≡ 0
+    → kernel.machine.pages_taken < promised (view (machine_of kernel))
+
+-- Or a page of its memory is no page of its own: other places have it too.
+abbrev pub SharedIsLeft : Type 0
+SharedIsLeft =
+    (kernel : Kernel) (slot root space page : ℕ) (found : Mapping) → Accounted kernel → at (machine_of kernel).roots slot ≡ Some root
+    → (at (machine_of kernel).domains root).space ≡ Some space → map_of (machine_of kernel).forest.keys space page ≡ Some found
+    → (IsOwn (machine_of kernel).forest space page found → ⊥)
     → kernel.machine.pages_taken < promised (view (machine_of kernel))
 
 -- A process has at most three nodes of its domain, one root and four nodes for each page that it maps, and an inode at most one
