@@ -16,3 +16,4 @@ pub mod HeldLaws
 pub mod UntakenLaws
 pub mod PagesLeft
 pub mod SharedPages
+pub mod HolesLeft

@@ -109,5 +109,15 @@ module _ (kernel : Kernel) (good : Accounted kernel) where
       → kernel.machine.pages_taken + spare ≤ promised (view (machine_of kernel))
   bounded-by spare less = covered-by (slots-have kernel good) spare (λ n below taken. taken-has n taken) less
 
+  -- where inodes have so much less than they are promised
+  pub bounded-inodes : (spare : ℕ) → count_below (λ n. inodes-have kernel good (first + n)) kernel.size + spare ≤ sum_below (λ number. inode_pages (at (view (machine_of kernel)).files.inodes number)) 1024
+      → kernel.machine.pages_taken + spare ≤ promised (view (machine_of kernel))
+  unfolding promised
+  bounded-inodes spare less =
+      let counted = taken-counted kernel.page_entries first kernel.size kernel.machine.free_page kernel.machine.pages_taken good.bank.pages.entries_good in
+      let covered = count-less (λ n. is_taken (entry_at kernel.page_entries n)) (λ n. slots-have kernel good (first + n) || inodes-have kernel good (first + n)) kernel.size (λ n below taken. taken-has n taken) in
+      let both = count-or (λ n. slots-have kernel good (first + n)) (λ n. inodes-have kernel good (first + n)) kernel.size in
+      omega (arith, slots-few, less)
+
 pub pages_accounted : law.PagesAccounted
 pages_accounted kernel good = let few = bounded-by kernel good 0 (let slots = slots-few kernel good in omega arith) in omega arith

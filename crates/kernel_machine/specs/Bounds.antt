@@ -7,6 +7,7 @@ use Rattle.kernel_tables.specs.Rows.{domain_rows}
 use Rattle.space_bank.specs.Bank.{BankGood, NoneFree}
 use Rattle.forest.specs.Calls.{IsOwn}
 use Rattle.forest.specs.Forest.{Held, NoneEmpty, NoPageOutside}
+use Rattle.forest.specs.Labels.{shared_page}
 use Rattle.forest.specs.Walks.{Mapping, map_of}
 use Rattle.kernel_forest.specs.Trees.{forest_of, outside_trees}
 use Rattle.file_tables.specs.Roots.{named_by}
@@ -77,6 +78,13 @@ SharedIsLeft =
     (kernel : Kernel) (slot root space page : ℕ) (found : Mapping) → Accounted kernel → at (machine_of kernel).roots slot ≡ Some root
     → (at (machine_of kernel).domains root).space ≡ Some space → map_of (machine_of kernel).forest.keys space page ≡ Some found
     → (IsOwn (machine_of kernel).forest space page found → ⊥)
+    → kernel.machine.pages_taken < promised (view (machine_of kernel))
+
+-- Or a file or directory has no page, or a blank one, at a page number within its length.
+abbrev pub HoleIsLeft : Type 0
+HoleIsLeft =
+    (kernel : Kernel) (number : ℕ) (inode : Inode) (page : ℕ) → Accounted kernel → at (machine_of kernel).inodes number ≡ Some inode → HasTree inode.kind
+    → page < pages_of inode.length → shared_page (machine_of kernel).forest.keys (inode.root, page) ≡ None
     → kernel.machine.pages_taken < promised (view (machine_of kernel))
 
 -- A process has at most three nodes of its domain, one root and four nodes for each page that it maps, and an inode at most one

@@ -1,6 +1,6 @@
 //! Laws of what a good machine has left.
 
-ghost use Rattle.kernel_machine.specs.Bounds.{BlankIsLeft, BufferIsLeft, GoodIsAccounted, HeldWithDomain, HeldWithInode, NodesAccounted, NodesAreFree, PagesAccounted, PromisedIsFree, SharedIsLeft, TakenArePromised, UntakenIsHeld};
+ghost use Rattle.kernel_machine.specs.Bounds.{BlankIsLeft, BufferIsLeft, GoodIsAccounted, HeldWithDomain, HeldWithInode, HoleIsLeft, NodesAccounted, NodesAreFree, PagesAccounted, PromisedIsFree, SharedIsLeft, TakenArePromised, UntakenIsHeld};
 
 /// Where all that is taken is accounted for, taken pages are at most those that the flat state promises.
 pub fn pages_accounted()
@@ -20,6 +20,11 @@ pub fn blank_is_left()
 /// A promised page isn't taken yet where a page of a process is no page of its own.
 pub fn shared_is_left()
     ensures { SharedIsLeft }
+{}
+
+/// A promised page isn't taken yet where a file has a hole within its length.
+pub fn hole_is_left()
+    ensures { HoleIsLeft }
 {}
 
 /// Few nodes are taken, by the pages that the flat state promises.

@@ -8,8 +8,8 @@ mod views;
 
 pub use bounds::{
     blank_is_left, buffer_is_left, good_is_accounted, held_with_domain, held_with_inode,
-    nodes_accounted, nodes_are_free, pages_accounted, promised_is_free, shared_is_left,
-    taken_are_promised,
+    hole_is_left, nodes_accounted, nodes_are_free, pages_accounted, promised_is_free,
+    shared_is_left, taken_are_promised,
 };
 pub use calls::{description_set, domain_set, inode_set, life_set, roots_differ};
 pub use changes::{
