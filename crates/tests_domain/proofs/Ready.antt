@@ -1,5 +1,5 @@
 -- What holds before the first domain is made.
-use Rattle.std.proofs.Common.{◌≡◌, ◌<◌, ◌≤◌, ◌+◌, ◌*◌, ◌/◌, ℕ, Option, MatchOption, Some, None, true, false, List, [], ◌∷◌, length, refl, ap, sym, subst, ◌∙◌, arith}
+use Rattle.std.proofs.Common.{◌≡◌, ◌<◌, ◌≤◌, ◌+◌, ◌*◌, ◌/◌, ℕ, Option, MatchOption, IsSome, Some, None, true, false, List, [], ◌∷◌, length, refl, ap, sym, subst, ◌∙◌, arith}
 use Rattle.kn_base.specs.declared.key.NodeId.{NodeId}
 use Rattle.kn_base.specs.declared.key.Key.{Key}
 use Rattle.kn_base.specs.declared.key.Key.TheVariants.{Null, Segment}
@@ -19,13 +19,14 @@ use Rattle.domain.specs.declared.types.Phase.TheVariants.{Exiting}
 use Rattle.domain.specs.Domains.{Domain, domains, roots, roots_by}
 use Rattle.domain.specs.Sets.{WritesNumbers, HandsOver}
 use Rattle.domain.specs.Life.{born, MakesDomain}
+use Rattle.domain.specs.Buffers.{IsBuffer, HoldsBuffer, WritesBuffer, FirstBytes}
 use Rattle.domain.specs.Ends.{MayEnd, MakesZombie, MayDrop, ended}
 use Rattle.space_bank.proofs.HandLaws.{nothing-in_hand}
 use Rattle.domain.specs.Keys.{key_of_space}
 use Rattle.domain.specs.Rules.{RowsGood}
 use Rattle.domain.proofs.Untaken.{untaken_rows}
 use Rattle.domain.proofs.Writing.{fixed_key}
-use Rattle.tests_domain.specs.First.{IsReady, IsFirst, IsDead}
+use Rattle.tests_domain.specs.First.{IsReady, IsFirst, IsDead, IsBuffered}
 
 pub empty_taken : (kernel : Kernel) → kernel ≡ empty_bank 64 100 → kernel.machine.nodes_taken ≡ 0
 unfolding empty_bank
@@ -34,6 +35,14 @@ empty_taken kernel e = ap (λ (k : Kernel). k.machine.nodes_taken) e
 pub empty_nodes : (kernel : Kernel) → kernel ≡ empty_bank 64 100 → kernel.nodes ≡ 1552
 unfolding empty_bank zero_kernel
 empty_nodes kernel e = ap (λ (k : Kernel). k.nodes) e
+
+empty_pages : (kernel : Kernel) → kernel ≡ empty_bank 64 100 → kernel.machine.pages_taken ≡ 0
+unfolding empty_bank
+empty_pages kernel e = ap (λ (k : Kernel). k.machine.pages_taken) e
+
+empty_size : (kernel : Kernel) → kernel ≡ empty_bank 64 100 → kernel.size ≡ 64
+unfolding empty_bank zero_kernel
+empty_size kernel e = ap (λ (k : Kernel). k.size) e
 
 slot_null : (kernel : Kernel) → BankGood kernel → FreshNodes kernel.keys → fixed_rows kernel 11 5 ≡ Null
 unfolding key_table
@@ -46,6 +55,7 @@ ready k0 k1 space e good fresh counted takes puts =
       rows = subst RowsGood (sym (rows-node_taken k0 k1 space.0 Tree inside refl takes of_domain domains_apart)) (untaken_rows k0 good (empty_taken k0 e));
       free = ap (λ (f : ℕ → ℕ → Key). f 11 5) (rows-node_taken k0 k1 space.0 Tree inside refl takes is_fixed fixed_apart) ∙ slot_null k0 good fresh;
       room = (let a = ap (λ (k : Kernel). k.machine.nodes_taken) takes.state in let b = ap (λ (k : Kernel). k.nodes) takes.state in let d = empty_taken k0 e in let f = empty_nodes k0 e in omega arith);
+      pages = (let a = ap (λ (k : Kernel). k.machine.pages_taken) takes.state in let b = ap (λ (k : Kernel). k.size) takes.state in let d = empty_pages k0 e in let f = empty_size k0 e in omega arith);
       shares = puts.counted nothing_outside [] (key_of_space (Some space.0)) (eq-eqb space.0 space.0 refl) counted;
     }
 
@@ -62,6 +72,7 @@ first k0 k1 space root is made = record {
   root_once = made.entry_of_root;
   regs_once = made.entry_of_regs;
   descriptors_once = made.entry_of_descriptors;
+  pages = (let a = ap (λ (k : Kernel). k.machine.pages_taken) made.rest in let b = ap (λ (k : Kernel). k.size) made.rest in let p = is.pages in omega arith);
   shares = made.shares nothing_outside [] is.shares;
 }
 
@@ -133,3 +144,31 @@ module _ (k0 k1 k2 : Kernel) (root : ℕ) (is : IsFirst k0 root)
 
 pub drops_there : (kernel : Kernel) (root : ℕ) → IsDead kernel root → MatchOption (at (roots kernel) 5) ⊥ (λ root. MayDrop kernel root)
 drops_there kernel root is = subst (λ (o : Option ℕ). MatchOption o ⊥ (λ r. MayDrop kernel r)) (sym is.named) is.drops
+
+-- ---- it gets a buffer
+
+pub first_room : (kernel : Kernel) (root : ℕ) → IsFirst kernel root → kernel.machine.pages_taken < kernel.size
+first_room kernel root is = is.pages
+
+pub buffered : (k0 k1 : Kernel) (root start : ℕ) (bytes : List ℕ) → IsFirst k0 root → WritesBuffer k0 k1 root start bytes (at (domains k0) root).buffer → IsBuffered k1 root
+buffered k0 k1 root start bytes is wrote =
+    let none : (at (domains k0) root).buffer ≡ None = ap (λ (d : Domain). d.buffer) is.domain in
+    first_bytes k0 k1 root start bytes is (subst (WritesBuffer k0 k1 root start bytes) none wrote)
+  where
+    first_bytes : (k0 k1 : Kernel) (root start : ℕ) (bytes : List ℕ) → IsFirst k0 root → FirstBytes k0 k1 root start bytes → IsBuffered k1 root
+    first_bytes k0 k1 root start bytes is wrote =
+        let now = ap domains wrote.writes ∙ wrote.takes.domains_now in
+        let there = born_at (domains k0) (domains k1) root (let was = at (domains k0) root in record was { buffer = Some wrote.page }) (ap domains wrote.writes ∙ wrote.takes.domains_now) in
+        record {
+          page = wrote.page;
+          live = ap (λ (d : Domain). d.live) there ∙ ap (λ (d : Domain). d.live) is.domain;
+          held = ap (λ (d : Domain). d.buffer) there;
+          is = subst (λ k. IsBuffer k wrote.page) (sym wrote.writes) (record { inside = wrote.takes.buffer.inside; entry = wrote.takes.buffer.entry });
+          shares = subst (λ k. Shares k nothing_outside []) (sym wrote.writes) (let s = wrote.takes.shares nothing_outside [] is.shares in record { of_pages = s.of_pages; of_nodes = s.of_nodes });
+        }
+
+pub holds : (kernel : Kernel) (root : ℕ) → IsBuffered kernel root → HoldsBuffer kernel (at (domains kernel) root).buffer
+holds kernel root is = subst (HoldsBuffer kernel) (sym is.held) is.is
+
+pub is_held : (kernel : Kernel) (root : ℕ) → IsBuffered kernel root → IsSome (at (domains kernel) root).buffer
+is_held kernel root is = subst (λ (o : Option ℕ). IsSome o) (sym is.held) refl
