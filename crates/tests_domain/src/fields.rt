@@ -11,7 +11,7 @@ ghost use Rattle.domain.specs.Rules.{RowsGood};
 ghost use Rattle.domain.specs.Domains.{domains};
 
 use super::first::{SLOT, first_domain};
-use super::setting::set_all;
+use super::setting::{other_space, set_all};
 use domain::{
     Answer, Heads, Phase, State, answer_of, count_of, descriptor, heads_of, mark_words, phase_of,
     regs_of, request_of, root_of, space_of, state_of,
@@ -86,6 +86,16 @@ fn some_regs() -> Regs {
         x[n as usize] = 0x0101_0000 + n;
     }
     Regs { x, pc: 0x8000_0004 }
+}
+
+#[test]
+fn another_space_is_read_back(rt: HostRuntime) -> Result<(), Fail> {
+    let Made { mut store, root } = machine_with_domain(rt.alloc())?;
+    other_space(&mut store, root, NodeId(77));
+    assert_eq!(rt; space_of(&store, root), Some(NodeId(77)));
+    assert_eq!(rt; root_of(&store, SLOT), Some(root));
+    assert_eq!(rt; phase_of(&store, root), Phase::Run);
+    Ok(())
 }
 
 #[test]

@@ -16,4 +16,4 @@ mod setting;
 pub use buffers::{buffered_domain, first_bytes, give_buffer};
 pub use dying::{dead_domain, drop_dead};
 pub use first::{SLOT, first_domain};
-pub use setting::{make_request, set_all, ten_phases};
+pub use setting::{make_request, other_space, set_all, ten_phases};

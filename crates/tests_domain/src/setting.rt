@@ -13,7 +13,7 @@ ghost use Rattle.domain.specs.Domains.{domains, lives};
 
 use domain::{
     Answer, Heads, Phase, State, set_answer, set_descriptor, set_heads, set_mark_words, set_phase,
-    set_regs, set_request, set_state,
+    set_regs, set_request, set_space, set_state,
 };
 use kn_base::{NodeId, Store};
 use unix_model::{Regs, Request};
@@ -91,4 +91,19 @@ pub fn set_all<T: Store>(
     set_mark_words(store, root, [1, 7, 0]);
     set_phase(store, root, Phase::Done);
     set_state(store, root, State::Available, u64::MAX);
+}
+
+/// Takes the space of a domain away, and sets another one.
+#[tactic(auto, using(unix_model::proofs::TableLaws::tables))]
+pub fn other_space<T: Store>(store: &mut T, root: NodeId, space: NodeId)
+    requires good { BankGood (kernel_of (T.memory store.old)) }
+    requires rows { RowsGood (domain_rows (kernel_of (T.memory store.old))) }
+    requires live { (at (domains (kernel_of (T.memory store.old))) root.0).live ≡ true }
+    ensures live { (at (domains (kernel_of (T.memory store.new))) root.0).live ≡ true }
+    ensures rows { RowsGood (domain_rows (kernel_of (T.memory store.new))) }
+    ensures good { BankGood (kernel_of (T.memory store.new)) }
+    ensures keeps { T.keeps store.old store.new }
+{
+    set_space(store, root, None);
+    set_space(store, root, Some(space));
 }
