@@ -1,13 +1,13 @@
 -- Rows that are cleared, and their nodes that are given back.
-use Rattle.std.proofs.Common.{◌≡◌, ◌≢◌, ◌<◌, ◌≤◌, ◌+◌, ◌*◌, ◌-◌, ℕ, zero, suc, Option, Some, None, true, false, List, [], ◌∷◌, length, set, get_or-set_same, get_or-set_other, refl, ap, sym, subst, ◌∙◌, arith, ⊎_elim, nat_lt, if◌then◌else◌}
+use Rattle.std.proofs.Common.{◌≡◌, ◌<◌, ◌≤◌, ◌+◌, ◌*◌, ℕ, suc, Option, Some, None, true, List, ◌∷◌, length, get_or-set_same, get_or-set_other, refl, ap, sym, subst, ◌∙◌, arith, ⊎_elim}
 use Rattle.std.proofs.Math.Path.{fun_ext}
 use Rattle.std.proofs.lemmas.Bool.{cases_lt, lt-ltb, le-ltb}
 use Rattle.kn_base.specs.declared.key.Key.{Key}
-use Rattle.kn_base.specs.declared.key.Key.TheVariants.{Null, Number, Node}
+use Rattle.kn_base.specs.declared.key.Key.TheVariants.{Null}
 use Rattle.kernel_tables.specs.declared.entry.NodeOwner.TheVariants.{Domain as DomainOwner}
 use Rattle.kernel_tables.specs.declared.entry.Entry.TheVariants.{Free, Taken, Fixed, Unspelled}
 use Rattle.kernel_tables.specs.Kernel.{Kernel}
-use Rattle.kernel_tables.specs.Rows.{entry_at, key_table, rows, domain_rows, fixed_rows, of_domain, is_fixed, spelled_or_null}
+use Rattle.kernel_tables.specs.Rows.{entry_at, key_table, rows, domain_rows, of_domain, is_fixed, spelled_or_null}
 use Rattle.space_bank.specs.Bank.{BankGood, IsTakenOnce, node_given}
 use Rattle.space_bank.specs.Fixed.{key_in}
 use Rattle.space_bank.specs.FreeList.{is_free, taken_one}
@@ -16,12 +16,11 @@ use Rattle.space_bank.specs.Shares.{Outside, Shares, NamesNothing, TakesNodeOutO
 use Rattle.space_bank.proofs.FreeListLaws.{entry_inside, taken_count-set}
 use Rattle.space_bank.proofs.HandLaws.{nothing-in_hand, node-in_hand_unnamed}
 use Rattle.kernel_forest.specs.Trees.{outside_trees}
-use Rattle.kernel_forest.specs.Moves.{PutsRow, GivesRow}
+use Rattle.kernel_forest.specs.Moves.{PutsRow}
 use Rattle.kernel_forest.proofs.NoTree.{gives_row}
 use Rattle.kernel_forest.proofs.RowLaws.{domains_apart, fixed_apart}
 use Rattle.unix_model.specs.Tables.{at, with_at}
 use Rattle.unix_model.proofs.TableLaws.{with_at-twice, with_at-same}
-use Rattle.domain.specs.Keys.{is_number, node_in}
 use Rattle.domain.specs.Life.{null_row, and_all}
 use Rattle.domain.specs.Ends.{IsNodeOnce, IsQuiet, Clears, GivesBack, KeepsAllButNodes, with_nulls, row_keys}
 use Rattle.domain.proofs.RowLaws.{here_at, changed_at}

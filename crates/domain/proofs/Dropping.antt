@@ -1,28 +1,24 @@
 -- A domain is dropped, call by call.
-use Rattle.std.proofs.Common.{◌≡◌, ◌≢◌, ◌<◌, ◌≤◌, ◌+◌, ◌*◌, ◌/◌, ◌%◌, ◌&&◌, ℕ, zero, suc, Bool, Option, Some, None, true, false, nat_lt, List, [], ◌∷◌, refl, ap, sym, subst, ◌∙◌, arith, ⊎_elim, if◌then◌else◌}
+use Rattle.std.proofs.Common.{◌≡◌, ◌≢◌, ◌<◌, ◌≤◌, ◌+◌, ◌*◌, ◌/◌, ◌%◌, ◌&&◌, ℕ, zero, suc, Bool, Option, Some, None, true, false, nat_lt, List, ◌∷◌, refl, ap, sym, subst, ◌∙◌, arith, ⊎_elim, if◌then◌else◌}
 use Rattle.std.proofs.Math.Path.{fun_ext}
 use Rattle.std.specs.Option.{is_some}
 use Rattle.std.proofs.lemmas.Bool.{cases_eq, cases_lt, lt-ltb, eq-eqb}
 use Rattle.kn_base.specs.declared.key.Key.{Key}
 use Rattle.kn_base.specs.declared.key.Key.TheVariants.{Null, Start, Meter, Domain as DomainKey}
-use Rattle.kernel_tables.specs.declared.entry.NodeOwner.{NodeOwner}
-use Rattle.kernel_tables.specs.declared.entry.Entry.{Entry}
-use Rattle.kernel_tables.specs.declared.entry.Entry.TheVariants.{Free, Taken, Fixed, Unspelled}
 use Rattle.kernel_tables.specs.Kernel.{Kernel}
 use Rattle.kernel_tables.specs.Rows.{entry_at, key_table, rows, domain_rows, fixed_rows, of_domain, is_fixed}
 use Rattle.space_bank.specs.Bank.{BankGood}
-use Rattle.space_bank.specs.FreeList.{is_free}
 use Rattle.space_bank.specs.Laws.{and_outside}
-use Rattle.space_bank.specs.Shares.{Outside, Shares, NamesNothing, key_names_node}
+use Rattle.space_bank.specs.Shares.{Outside, Shares, NamesNothing}
 use Rattle.space_bank.proofs.HandLaws.{nothing-in_hand}
-use Rattle.kernel_forest.specs.Trees.{forest_of, outside_trees}
+use Rattle.kernel_forest.specs.Trees.{outside_trees}
 use Rattle.kernel_forest.specs.Moves.{PutsRow}
 use Rattle.unix_model.specs.Tables.{at, with_at}
 use Rattle.domain.specs.Keys.{is_meter, meter_in, is_number, node_in, root_in, segment_in, page_in, key_of_space, word_in, count_in}
-use Rattle.domain.specs.Domains.{Domain, no_domain, full_domain, domains, domain_at, lives, lives_by, life_in, roots, roots_by}
+use Rattle.domain.specs.Domains.{Domain, full_domain, domain_at, lives_by, life_in, roots, roots_by}
 use Rattle.domain.specs.Rules.{RootGood, RootPlaces, RowsGood, written}
 use Rattle.domain.specs.Life.{null_row, and_all}
-use Rattle.domain.specs.Ends.{IsNodeOnce, IsQuiet, MayDrop, DropsDomain, GivesBack, KeepsAllButNodes, no_life, row_keys}
+use Rattle.domain.specs.Ends.{IsNodeOnce, IsQuiet, MayDrop, DropsDomain, GivesBack, no_life, row_keys}
 use Rattle.domain.proofs.RowLaws.{here_at, other_at, changed_at, written_both, root_unnamed}
 use Rattle.domain.proofs.DomainLaws.{live_meter, root_domain}
 use Rattle.domain.proofs.FieldLaws.{root_space, root_buffer, root_whole, slot_root}

@@ -1,5 +1,5 @@
 -- A domain becomes a zombie, call by call.
-use Rattle.std.proofs.Common.{◌≡◌, ◌≢◌, ◌<◌, ◌≤◌, ◌+◌, ◌*◌, ◌⊎◌, ℕ, Option, Some, None, true, false, List, [], ◌∷◌, refl, ap, sym, subst, ◌∙◌, arith, ⊎_elim}
+use Rattle.std.proofs.Common.{◌≡◌, ◌≢◌, ◌<◌, ◌≤◌, ◌+◌, ◌*◌, ℕ, Some, true, false, List, ◌∷◌, refl, ap, sym, subst, ◌∙◌, arith, ⊎_elim}
 use Rattle.std.proofs.lemmas.Bool.{eq-eqb}
 use Rattle.kn_base.specs.declared.key.Key.{Key}
 use Rattle.kn_base.specs.declared.key.Key.TheVariants.{Null, Node}
@@ -9,7 +9,7 @@ use Rattle.space_bank.specs.FreeList.{is_free}
 use Rattle.space_bank.specs.Laws.{and_outside}
 use Rattle.space_bank.specs.Shares.{Outside, Shares, key_names_node}
 use Rattle.space_bank.proofs.HandLaws.{nothing-in_hand, hand-swapped}
-use Rattle.kernel_forest.specs.Trees.{forest_of, outside_trees}
+use Rattle.kernel_forest.specs.Trees.{outside_trees}
 use Rattle.kernel_forest.specs.Moves.{PutsRow}
 use Rattle.unix_model.specs.Tables.{at, with_at}
 use Rattle.unix_model.proofs.TableLaws.{at-with_at, with_at-twice}
@@ -18,15 +18,14 @@ use Rattle.domain.specs.Keys.{is_meter, is_number, node_in}
 use Rattle.domain.specs.Domains.{Domain, full_domain, domains, domain_at, lives, lives_by}
 use Rattle.domain.specs.Rules.{RowsGood, NobodyIn, written}
 use Rattle.domain.specs.Sets.{WritesNumbers}
-use Rattle.domain.specs.Life.{null_row, and_all}
-use Rattle.domain.specs.Ends.{IsNodeOnce, IsQuiet, MayEnd, MakesZombie, GivesBack, KeepsAllButNodes, ended, row_keys}
+use Rattle.domain.specs.Life.{null_row}
+use Rattle.domain.specs.Ends.{IsNodeOnce, IsQuiet, MayEnd, MakesZombie, GivesBack, KeepsAllButNodes, ended}
 use Rattle.domain.proofs.RowLaws.{here_at, other_at, root_unnamed}
 use Rattle.domain.proofs.DomainLaws.{live_meter, root_domain}
 use Rattle.domain.proofs.FieldLaws.{written_two}
 use Rattle.domain.proofs.WordLaws.{number_no_meter}
 use Rattle.domain.proofs.Pages.{null_outside}
 use Rattle.domain.proofs.Writing.{root_mine, row_key, domain_not_fixed}
-use Rattle.domain.proofs.Clearing.{once_mine}
 use Rattle.domain.proofs.Gone.{unnamed_row, wordless, unnamed_good, third_nobody, fourth_nobody, unnamed_domains, unnamed_lives, gone_nobody, gone_good, gone_domains, gone_lives, words_quiet, words_outside}
 
 pub root_regs_node : (rows : ℕ → ℕ → Key) (root : ℕ) → (at (domain_at rows) root).live ≡ true → (at (domain_at rows) root).regs_node ≡ node_in (rows root 3)

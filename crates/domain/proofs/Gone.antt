@@ -1,19 +1,19 @@
 -- Rows of domains, while a root loses its nodes of words and nodes lose their keys.
-use Rattle.std.proofs.Common.{◌≡◌, ◌≢◌, ◌<◌, ◌≤◌, ℕ, zero, suc, Option, Some, None, Bool, true, false, List, [], ◌∷◌, refl, ap, sym, subst, ◌∙◌, arith, ⊎_elim}
+use Rattle.std.proofs.Common.{◌≡◌, ◌<◌, ◌≤◌, ℕ, zero, suc, Some, None, true, false, refl, ap, sym, subst, ◌∙◌, arith, ⊎_elim}
 use Rattle.std.proofs.lemmas.Bool.{cases_lt}
 use Rattle.kn_base.specs.declared.key.Key.{Key}
-use Rattle.kn_base.specs.declared.key.Key.TheVariants.{Null, Node}
+use Rattle.kn_base.specs.declared.key.Key.TheVariants.{Null}
 use Rattle.space_bank.specs.Laws.{and_outside}
 use Rattle.space_bank.specs.Shares.{Outside, NamesNothing}
 use Rattle.unix_model.specs.Tables.{at, with_at}
 use Rattle.unix_model.proofs.TableLaws.{with_at-same}
 use Rattle.domain.specs.Keys.{is_number, is_meter, node_in}
 use Rattle.domain.specs.Domains.{Domain, no_domain, full_domain, domain_by, domain_at, words_of, lives_by}
-use Rattle.domain.specs.Rules.{RootGood, RootPlaces, RowsGood, NobodyIn, written}
+use Rattle.domain.specs.Rules.{RootGood, RootPlaces, RowsGood, NobodyIn}
 use Rattle.domain.specs.Life.{null_row, and_all}
 use Rattle.domain.specs.Ends.{IsQuiet, row_keys}
 use Rattle.domain.proofs.RowLaws.{here_at, row_case, root_unnamed}
-use Rattle.domain.proofs.DomainLaws.{domains_at, a_root, root_domain, live_meter, lives_row_same}
+use Rattle.domain.proofs.DomainLaws.{domains_at, a_root, root_domain, lives_row_same}
 use Rattle.domain.proofs.FieldLaws.{two_other}
 use Rattle.domain.proofs.WordLaws.{no_root}
 use Rattle.domain.proofs.Pages.{null_outside}

@@ -17,7 +17,7 @@ use Rattle.kernel_forest.proofs.RowLaws.{domains_apart, fixed_apart}
 use Rattle.unix_model.specs.Tables.{at, with_at}
 use Rattle.domain.specs.declared.types.State.TheVariants.{Running}
 use Rattle.std.proofs.lemmas.Bool.{eq-eqb}
-use Rattle.domain.specs.Keys.{node_in, key_of_space}
+use Rattle.domain.specs.Keys.{key_of_space}
 use Rattle.domain.specs.Domains.{Domain, domain_at, lives_by, life_in, roots_by}
 use Rattle.domain.specs.Rules.{RowsGood, NobodyIn, written}
 use Rattle.domain.specs.Life.{Fills, FillsRoot, MakesDomain, with_zeros, null_row, zero_row, root_row, root_keys, and_all, born, slot_key}

@@ -16,7 +16,7 @@ use Rattle.kernel_forest.specs.Moves.{KeepsRest}
 use Rattle.unix_model.specs.Tables.{at, with_at}
 use Rattle.domain.specs.declared.types.State.TheVariants.{Running}
 use Rattle.domain.specs.Domains.{Domain, no_domain, domains, life_in, lives, roots}
-use Rattle.domain.specs.Keys.{is_number, node_in, key_of_space}
+use Rattle.domain.specs.Keys.{is_number, key_of_space}
 use Rattle.domain.specs.Rules.{RowsGood, written}
 
 -- the number of three zeros, and a row with it from one place on, below another

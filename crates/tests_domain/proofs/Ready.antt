@@ -1,11 +1,11 @@
 -- What holds before the first domain is made.
-use Rattle.std.proofs.Common.{◌≡◌, ◌<◌, ◌≤◌, ◌+◌, ◌*◌, ◌/◌, ℕ, Option, MatchOption, IsSome, Some, None, true, false, List, [], ◌∷◌, length, refl, ap, sym, subst, ◌∙◌, arith}
+use Rattle.std.proofs.Common.{◌≡◌, ◌<◌, ℕ, Option, MatchOption, IsSome, Some, None, List, [], ◌∷◌, length, refl, ap, sym, subst, ◌∙◌, arith}
 use Rattle.kn_base.specs.declared.key.NodeId.{NodeId}
 use Rattle.kn_base.specs.declared.key.Key.{Key}
-use Rattle.kn_base.specs.declared.key.Key.TheVariants.{Null, Segment}
+use Rattle.kn_base.specs.declared.key.Key.TheVariants.{Null}
 use Rattle.kernel_tables.specs.declared.entry.NodeOwner.TheVariants.{Tree}
-use Rattle.kernel_tables.specs.Kernel.{Kernel, zero_kernel, node_count}
-use Rattle.kernel_tables.specs.Rows.{entry_at, spelled_or_null, key_table, domain_rows, fixed_rows, of_domain, is_fixed}
+use Rattle.kernel_tables.specs.Kernel.{Kernel, zero_kernel}
+use Rattle.kernel_tables.specs.Rows.{entry_at, spelled_or_null, key_table, fixed_rows, of_domain, is_fixed}
 use Rattle.space_bank.specs.Bank.{BankGood, TakesNode}
 use Rattle.space_bank.specs.Fixed.{FreshNodes}
 use Rattle.space_bank.specs.Setup.{empty_bank}

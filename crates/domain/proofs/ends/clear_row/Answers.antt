@@ -1,7 +1,6 @@
-use Rattle.std.proofs.Common.{ℕ, ap, sym, subst, arith, rules, ◌≡◌, ◌≤◌}
+use Rattle.std.proofs.Common.{ap, arith, rules}
 use Rattle.kernel_tables.specs.Kernel.{Kernel, kernel_of}
 use Rattle.kernel_tables.proofs.BlockLaws.{no_block}
-use Rattle.domain.specs.Ends.{Clears}
 use Rattle.domain.proofs.Writing.{same_block}
 use Rattle.domain.proofs.Clearing.{clears_none, clears_more}
 use Rattle.domain.proofs.ends.clear_row.Goals as goal

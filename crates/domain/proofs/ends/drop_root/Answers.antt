@@ -1,8 +1,7 @@
-use Rattle.std.proofs.Common.{ℕ, ap, refl, sym, subst, [], ◌∷◌, ◌/◌, ◌+◌}
+use Rattle.std.proofs.Common.{ap, refl}
 use Rattle.std.proofs.lemmas.Bool.{eq-eqb}
 use Rattle.kn_base.specs.declared.key.Key.TheVariants.{Domain as DomainKey}
 use Rattle.kernel_tables.specs.Kernel.{Kernel, kernel_of}
-use Rattle.kernel_tables.specs.Blocks.{ChangesBlocks, key_block, node_entry_block, machine_block}
 use Rattle.domain.proofs.BlockSets.{dropped_changes}
 use Rattle.domain.proofs.Dropping.{once1, quiet1, in_hand1, dropped_rows, drops_domain}
 use Rattle.domain.proofs.ends.drop_root.Goals as goal

@@ -1,4 +1,4 @@
-use Rattle.std.proofs.Common.{ℕ, ap, refl, sym, subst, rules, ◌∙◌, [], ◌∷◌, ◌++◌}
+use Rattle.std.proofs.Common.{ap, rules, ◌∙◌, ◌∷◌}
 use Rattle.kn_base.specs.declared.key.Key.TheVariants.{Node}
 use Rattle.kernel_tables.specs.Kernel.{Kernel, kernel_of}
 use Rattle.domain.proofs.Ending.{mine1, once_r, quiet_r, in_hand, once_d, quiet_d, in_hand_d, ended_rows, ends_domain, names_itself, root_regs_node, root_descriptors_node}

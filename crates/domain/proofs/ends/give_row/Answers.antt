@@ -1,7 +1,5 @@
-use Rattle.std.proofs.Common.{ℕ, ap, sym, subst, ◌∷◌}
-use Rattle.kernel_tables.specs.Kernel.{Kernel, kernel_of}
-use Rattle.space_bank.specs.Bank.{IsTakenOnce}
-use Rattle.domain.proofs.Clearing.{clears_once, once_mine, gives_back, once_place}
+use Rattle.kernel_tables.specs.Kernel.{kernel_of}
+use Rattle.domain.proofs.Clearing.{gives_back, once_place}
 use Rattle.domain.proofs.ends.give_row.Goals as goal
 
 pub give_node-requires-clause-unnamed : goal.give_node-requires-clause-unnamed

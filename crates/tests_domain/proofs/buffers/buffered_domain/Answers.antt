@@ -1,6 +1,5 @@
-use Rattle.std.proofs.Common.{ap, subst, sym, ◌≡◌, None, Option}
-use Rattle.kernel_tables.specs.Kernel.{Kernel, kernel_of}
-use Rattle.domain.specs.Domains.{Domain}
+use Rattle.std.proofs.Common.{subst, sym}
+use Rattle.kernel_tables.specs.Kernel.{kernel_of}
 use Rattle.domain.specs.Buffers.{HoldsBuffer}
 use Rattle.tests_domain.proofs.Ready.{buffered, first_room}
 use Rattle.tests_domain.proofs.buffers.buffered_domain.Goals as goal

@@ -1,5 +1,5 @@
-use Rattle.std.proofs.Common.{[], ◌∷◌, ap, rules, sym}
-use Rattle.kernel_tables.specs.Kernel.{Kernel, kernel_of}
+use Rattle.std.proofs.Common.{[], ◌∷◌, rules}
+use Rattle.kernel_tables.specs.Kernel.{kernel_of}
 use Rattle.space_bank.specs.Shares.{nothing_outside}
 use Rattle.unix_model.specs.Tables.{at}
 use Rattle.domain.specs.Domains.{domains}

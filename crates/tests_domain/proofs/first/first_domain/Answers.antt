@@ -1,5 +1,5 @@
 use Rattle.std.proofs.Common.{[], ap}
-use Rattle.kernel_tables.specs.Kernel.{Kernel, kernel_of}
+use Rattle.kernel_tables.specs.Kernel.{kernel_of}
 use Rattle.domain.specs.Domains.{Domain}
 use Rattle.space_bank.specs.Shares.{nothing_outside}
 use Rattle.tests_domain.proofs.Ready.{first}

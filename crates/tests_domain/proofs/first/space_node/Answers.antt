@@ -1,4 +1,4 @@
-use Rattle.std.proofs.Common.{◌+◌, ◌<◌, ◌≤◌, arith}
+use Rattle.std.proofs.Common.{arith}
 use Rattle.kernel_tables.specs.Kernel.{kernel_of}
 use Rattle.space_bank.proofs.FullLaws.{no_node-free}
 use Rattle.tests_domain.proofs.Ready.{ready, empty_nodes, empty_taken}
