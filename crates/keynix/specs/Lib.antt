@@ -6,4 +6,5 @@ pub mod Runs
 pub mod Inputs
 pub mod Endings
 pub mod Telling
+pub mod Counts
 pub mod Promises

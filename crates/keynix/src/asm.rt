@@ -4,6 +4,7 @@ ghost use Rattle.std.specs.Prelude.{◌≡◌, ◌≢◌, ◌≤◌, ◌<◌, �
 ghost use Rattle.kn_io.specs.Faults.{Rose};
 ghost use Rattle.kn_io.specs.Source.{IsAtEnd, Takes};
 ghost use Rattle.rv_asm.specs.Programs.{assembled};
+ghost use Rattle.keynix.specs.Counts.{CountsStay, ReadStays};
 ghost use Rattle.keynix.specs.Endings.{EndsAssembly, IsCaused, IsUnread, KeepsOutput};
 
 use crate::ending::Ending;
@@ -20,6 +21,7 @@ const ENOUGH_BYTES: usize = 102_500_001;
 pub fn asm<S: Source, K: Sink>(alloc: Global, input: &mut S, output: &mut K) -> Ending
     ensures ends { (bytes : List ℕ) → S.left input.old ≡ Some bytes → EndsAssembly (assembled bytes) S.left K.grew input.new output.old output.new result }
     ensures keeps { KeepsOutput output.old output.new result }
+    ensures counts { CountsStay (S.faults input.new ≡ S.faults input.old) (K.faults output.new ≡ K.faults output.old) result }
     ensures caused { IsCaused (Rose (S.faults input.old) (S.faults input.new)) (Rose (K.faults output.old) (K.faults output.new)) result }
     ensures input_counted { S.faults input.old ≤ S.faults input.new }
     ensures output_counted { K.faults output.old ≤ K.faults output.new }
@@ -45,6 +47,7 @@ fn read_front<S: Source>(alloc: Global, input: &mut S, most: usize) -> Result<Ve
     ensures takes { IfOk result (λ front. Takes (S.left input.old) front.items (S.left input.new)) }
     ensures bound { IfOk result (λ front. length front.items ≤ most) }
     ensures whole { IfOk result (λ front. length front.items ≢ most → IsAtEnd (S.left input.new)) }
+    ensures same { ReadStays (S.faults input.new ≡ S.faults input.old) result }
     ensures failed { IfErr result (IsUnread (Rose (S.faults input.old) (S.faults input.new))) }
     ensures counted { S.faults input.old ≤ S.faults input.new }
 {

@@ -4,6 +4,7 @@ ghost use Rattle.std.specs.Prelude.{◌≡◌, ◌≤◌, ◌∷◌, ◌++◌, �
 ghost use Rattle.std.specs.Option.{option_to_list};
 ghost use Rattle.kn_io.specs.Faults.{Rose};
 ghost use Rattle.unix_model.specs.Boot.{is_elf};
+ghost use Rattle.keynix.specs.Counts.{ReadStays};
 ghost use Rattle.keynix.specs.Endings.{IsCaused};
 ghost use Rattle.keynix.specs.Inputs.{BootsAs, Reads};
 ghost use Rattle.keynix.specs.WordsView.{setup_view};
@@ -25,6 +26,7 @@ const ELF: u8 = 0x7F;
 /// Boots an input. An ELF file is all of it; of a bundle what follows the line `end` is left.
 pub fn boot<S: Source>(alloc: Global, setup: Setup, input: &mut S) -> Result<Flat, Ending>
     ensures boots { (bytes : List ℕ) → S.left input.old ≡ Some bytes → BootsAs (setup_view setup) bytes (S.left input.new) result }
+    ensures same { ReadStays (S.faults input.new ≡ S.faults input.old) result }
     ensures caused { IfErr result (IsCaused (Rose (S.faults input.old) (S.faults input.new)) ⊥) }
     ensures counted { S.faults input.old ≤ S.faults input.new }
 {
@@ -57,6 +59,7 @@ fn boot_bundle<S: Source>(
     input: &mut S,
 ) -> Result<Flat, Ending>
     ensures boots { (rest : List ℕ) → S.left input.old ≡ Some rest → is_elf (option_to_list first ++ rest) ≡ false → BootsAs (setup_view setup) (option_to_list first ++ rest) (S.left input.new) result }
+    ensures same { ReadStays (S.faults input.new ≡ S.faults input.old) result }
     ensures caused { IfErr result (IsCaused (Rose (S.faults input.old) (S.faults input.new)) ⊥) }
     ensures counted { S.faults input.old ≤ S.faults input.new }
 {
@@ -69,6 +72,7 @@ fn boot_bundle<S: Source>(
 /// Boots an ELF file whose first byte was read.
 fn boot_file<S: Source>(alloc: Global, setup: Setup, input: &mut S) -> Result<Flat, Ending>
     ensures boots { (rest : List ℕ) → S.left input.old ≡ Some rest → BootsAs (setup_view setup) (127 ∷ rest) (S.left input.new) result }
+    ensures same { ReadStays (S.faults input.new ≡ S.faults input.old) result }
     ensures caused { IfErr result (IsCaused (Rose (S.faults input.old) (S.faults input.new)) ⊥) }
     ensures counted { S.faults input.old ≤ S.faults input.new }
 {
@@ -83,6 +87,7 @@ fn boot_file<S: Source>(alloc: Global, setup: Setup, input: &mut S) -> Result<Fl
 fn read_file<S: Source>(alloc: Global, input: &mut S) -> Result<Vec<u8>, Ending>
     ensures reads { (rest : List ℕ) → S.left input.old ≡ Some rest → Reads (127 ∷ rest) (S.left input.new) result }
     ensures elf { IfOk result (λ file. is_elf file.items ≡ true) }
+    ensures same { ReadStays (S.faults input.new ≡ S.faults input.old) result }
     ensures caused { IfErr result (IsCaused (Rose (S.faults input.old) (S.faults input.new)) ⊥) }
     ensures counted { S.faults input.old ≤ S.faults input.new }
 {

@@ -1,6 +1,6 @@
 //! The note and the status of an ending.
 
-ghost use Rattle.std.specs.Prelude.{◌≡◌, ◌≤◌, Some, IfOk, string_bytes};
+ghost use Rattle.std.specs.Prelude.{◌≡◌, ◌≤◌, ◌⊎◌, Some, IfOk, string_bytes};
 ghost use Rattle.kn_io.specs.Faults.{Rose};
 ghost use Rattle.kn_io.specs.Sink.{GrewByPrefix};
 ghost use Rattle.unix_model.specs.Notes.{halted_note, spent_note};
@@ -161,6 +161,7 @@ fn tell_text<E: Sink>(notes: &mut E, ending: Ending, text: Result<String, AllocE
     requires text { IfOk text (λ note. ending_note ending ≡ Some (string_bytes note)) }
     requires takes { TakesMemory ending }
     ensures tells { Tells E.grew (Rose (E.faults notes.old) (E.faults notes.new)) ending notes.old notes.new result.0 }
+    ensures same { (result.0 ≡ 4) ⊎ (E.faults notes.new ≡ E.faults notes.old) }
     ensures counted { E.faults notes.old ≤ E.faults notes.new }
 {
     match text {
@@ -176,6 +177,7 @@ fn tell_text<E: Sink>(notes: &mut E, ending: Ending, text: Result<String, AllocE
 fn tell<E: Sink>(notes: &mut E, ending: Ending, note: &[u8]) -> Status
     requires { ending_note ending ≡ Some note.now }
     ensures tells { Tells E.grew (Rose (E.faults notes.old) (E.faults notes.new)) ending notes.old notes.new result.0 }
+    ensures same { (result.0 ≡ 4) ⊎ (E.faults notes.new ≡ E.faults notes.old) }
     ensures counted { E.faults notes.old ≤ E.faults notes.new }
 {
     match notes.put(note) {
@@ -188,6 +190,7 @@ fn tell<E: Sink>(notes: &mut E, ending: Ending, note: &[u8]) -> Status
 #[tactic(auto, unfolding(crate::specs::Telling::usage_note, crate::specs::Telling::read_fault_note, crate::specs::Telling::write_fault_note, crate::specs::Telling::no_memory_note))]
 pub fn finish<E: Sink>(alloc: Global, notes: &mut E, ending: Ending) -> Status
     ensures tells { Tells E.grew (Rose (E.faults notes.old) (E.faults notes.new)) ending notes.old notes.new result.0 }
+    ensures same { (result.0 ≡ 4) ⊎ (E.faults notes.new ≡ E.faults notes.old) }
     ensures counted { E.faults notes.old ≤ E.faults notes.new }
 {
     match ending {

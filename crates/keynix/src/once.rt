@@ -2,6 +2,7 @@
 
 ghost use Rattle.std.specs.Prelude.{◌≡◌, ◌≤◌, ◌⊎◌, ℕ, List, Some, IfErr};
 ghost use Rattle.kn_io.specs.Faults.{Rose};
+ghost use Rattle.keynix.specs.Counts.{CountsStay, ReadStays};
 ghost use Rattle.keynix.specs.Endings.{EndsOn, EndsOnce, FromPlan, IsCaused, IsPlan, KeepsPlan, ReadsPlan, run_ending, schedule_told};
 ghost use Rattle.keynix.specs.Runs.{stop_of};
 ghost use Rattle.keynix.specs.Schedules.{schedule_of};
@@ -29,6 +30,7 @@ pub fn once<S: Source, P: Source, K: Sink>(
 ) -> Ending
     ensures ends { (text : List ℕ) → IsPlan (plan_view setup.plan) (P.left plan.old) text → EndsOnce (setup_view setup) (schedule_told (plan_view setup.plan) text) S.left K.grew (P.left plan.new) input.old input.new output.old output.new result }
     ensures plan_kept { KeepsPlan (plan_view setup.plan) plan.old plan.new }
+    ensures counts { CountsStay ((P.faults plan.new ≡ P.faults plan.old) × (S.faults input.new ≡ S.faults input.old)) (K.faults output.new ≡ K.faults output.old) result }
     ensures caused { IsCaused (Rose (S.faults input.old) (S.faults input.new) ⊎ FromPlan (plan_view setup.plan) (Rose (P.faults plan.old) (P.faults plan.new))) (Rose (K.faults output.old) (K.faults output.new)) result }
     ensures plan_counted { P.faults plan.old ≤ P.faults plan.new }
     ensures input_counted { S.faults input.old ≤ S.faults input.new }
@@ -45,6 +47,7 @@ pub fn once<S: Source, P: Source, K: Sink>(
 fn schedule_for<P: Source>(alloc: Global, plan: Plan, from: &mut P) -> Result<Schedule, Ending>
     ensures reads { (text : List ℕ) → IsPlan (plan_view plan) (P.left from.old) text → ReadsPlan (plan_view plan) (schedule_told (plan_view plan) text) (P.left from.new) result }
     ensures kept { KeepsPlan (plan_view plan) from.old from.new }
+    ensures same { ReadStays (P.faults from.new ≡ P.faults from.old) result }
     ensures caused { IfErr result (IsCaused (FromPlan (plan_view plan) (Rose (P.faults from.old) (P.faults from.new))) ⊥) }
     ensures counted { P.faults from.old ≤ P.faults from.new }
 {
@@ -68,6 +71,7 @@ fn run_input<S: Source, K: Sink>(
     output: &mut K,
 ) -> Ending
     ensures ends { (bytes : List ℕ) → S.left input.old ≡ Some bytes → EndsOn (setup_view setup) (schedule_of schedule) bytes S.left K.grew input.new output.old output.new result }
+    ensures counts { CountsStay (S.faults input.new ≡ S.faults input.old) (K.faults output.new ≡ K.faults output.old) result }
     ensures caused { IsCaused (Rose (S.faults input.old) (S.faults input.new)) (Rose (K.faults output.old) (K.faults output.new)) result }
     ensures input_counted { S.faults input.old ≤ S.faults input.new }
     ensures output_counted { K.faults output.old ≤ K.faults output.new }

@@ -11,6 +11,7 @@ ghost use Rattle.unix_model.specs.Turn.{turned};
 ghost use Rattle.flat_file_calls.specs.Console.{TakesFront};
 ghost use Rattle.flat_unix.specs.FlatView.{unix_of};
 ghost use Rattle.flat_unix.specs.Turns.{IsTurnFault};
+ghost use Rattle.keynix.specs.Counts.{TurnsStay};
 ghost use Rattle.keynix.specs.Rows.{GoesOn, MakesRow};
 ghost use Rattle.keynix.specs.Runs.{RunsAs, stop_of};
 ghost use Rattle.keynix.specs.Schedules.{schedule_of};
@@ -65,6 +66,7 @@ pub fn run<S: Source, K: Sink>(
     ensures runs { IfOk result (λ ran. (bytes : List ℕ) → S.left input.old ≡ Some bytes → RunsAs (unix_run call_of turns (unix_of flat.old) (schedule_of schedule.old) bytes) bytes S.left K.grew (unix_of flat.new) (schedule_of schedule.new) ran.turns (stop_of ran.stop) input.new output.old output.new) }
     ensures lost { OnErr result ((bytes : List ℕ) → S.left input.old ≡ Some bytes → TakesFront bytes (unix_run call_of turns (unix_of flat.old) (schedule_of schedule.old) bytes).taken (S.left input.new)) }
     ensures part { OnErr result ((bytes : List ℕ) → S.left input.old ≡ Some bytes → GrewByPrefix K.grew output.old (unix_run call_of turns (unix_of flat.old) (schedule_of schedule.old) bytes).put output.new) }
+    ensures same { TurnsStay (S.faults input.new ≡ S.faults input.old) (K.faults output.new ≡ K.faults output.old) result }
     ensures cause { IfErr result (IsTurnFault (Rose (S.faults input.old) (S.faults input.new)) (Rose (K.faults output.old) (K.faults output.new))) }
     ensures input_counted { S.faults input.old ≤ S.faults input.new }
     ensures output_counted { K.faults output.old ≤ K.faults output.new }
@@ -137,6 +139,7 @@ fn go_on<S: Source, K: Sink>(
     ensures few { IfOk result (λ advance. (0 < advance.turns) × (advance.turns ≤ most)) }
     ensures lost { OnErr result ((bytes : List ℕ) → S.left input.old ≡ Some bytes → TakesFront bytes (run_from (unix_machine call_of) most (unix_of flat.old) (schedule_of schedule.old) bytes).taken (S.left input.new)) }
     ensures part { OnErr result ((bytes : List ℕ) → S.left input.old ≡ Some bytes → GrewByPrefix K.grew output.old (run_from (unix_machine call_of) most (unix_of flat.old) (schedule_of schedule.old) bytes).put output.new) }
+    ensures same { TurnsStay (S.faults input.new ≡ S.faults input.old) (K.faults output.new ≡ K.faults output.old) result }
     ensures cause { IfErr result (IsTurnFault (Rose (S.faults input.old) (S.faults input.new)) (Rose (K.faults output.old) (K.faults output.new))) }
     ensures input_counted { S.faults input.old ≤ S.faults input.new }
     ensures output_counted { K.faults output.old ≤ K.faults output.new }
@@ -179,6 +182,7 @@ fn make_row<S: Source, K: Sink>(
     ensures few { IfOk result (λ made. (0 < made) × (made ≤ most)) }
     ensures lost { OnErr result ((bytes : List ℕ) → S.left input.old ≡ Some bytes → TakesFront bytes (turned call_of (unix_of flat.old) slot bytes).taken (S.left input.new)) }
     ensures part { OnErr result ((bytes : List ℕ) → S.left input.old ≡ Some bytes → GrewByPrefix K.grew output.old (turned call_of (unix_of flat.old) slot bytes).put output.new) }
+    ensures same { TurnsStay (S.faults input.new ≡ S.faults input.old) (K.faults output.new ≡ K.faults output.old) result }
     ensures cause { IfErr result (IsTurnFault (Rose (S.faults input.old) (S.faults input.new)) (Rose (K.faults output.old) (K.faults output.new))) }
     ensures input_counted { S.faults input.old ≤ S.faults input.new }
     ensures output_counted { K.faults output.old ≤ K.faults output.new }

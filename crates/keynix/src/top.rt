@@ -6,6 +6,7 @@ ghost use Rattle.kn_io.specs.Sink.{GrewByPrefix};
 ghost use Rattle.rv_asm.specs.Programs.{Program, Refusal as SourceRefusal, assembled};
 ghost use Rattle.flat_bundle.specs.Booting.{Booted, Refusal};
 ghost use Rattle.unix_model.specs.Schedule.{Schedule};
+ghost use Rattle.keynix.specs.Counts.{Counted};
 ghost use Rattle.keynix.specs.Words.{Asm, Once, Setup, command_of};
 ghost use Rattle.keynix.specs.Endings.{FromPlan, IsPlan, WritesFile, WritesPart, run_of, schedule_told};
 ghost use Rattle.keynix.specs.Inputs.{IsBoot};
@@ -31,6 +32,7 @@ fn perform<S: Source, P: Source, K: Sink, E: Sink>(
     notes: &mut E,
 ) -> Status
     ensures answers { Answers (command_of (map string_bytes words.now)) S.left P.left K.grew E.grew (Rose (S.faults input.old) (S.faults input.new)) (Rose (P.faults plan.old) (P.faults plan.new)) (Rose (K.faults output.old) (K.faults output.new)) (Rose (E.faults notes.old) (E.faults notes.new)) input.old input.new plan.old plan.new output.old output.new notes.old notes.new result.0 }
+    ensures counts { Counted (S.faults input.old) (S.faults input.new) (P.faults plan.old) (P.faults plan.new) (K.faults output.old) (K.faults output.new) (E.faults notes.old) (E.faults notes.new) result.0 }
     ensures plan_counted { P.faults plan.old ≤ P.faults plan.new }
     ensures input_counted { S.faults input.old ≤ S.faults input.new }
     ensures output_counted { K.faults output.old ≤ K.faults output.new }
@@ -113,6 +115,7 @@ pub fn keynix<S: Source, P: Source, K: Sink, E: Sink>(
     ensures refuses_source { (bytes : List ℕ) (refusal : SourceRefusal) → command_of (map string_bytes words.now) ≡ Some Asm → S.left input.old ≡ Some bytes → assembled bytes ≡ Err refusal
         → ¬ Rose (S.faults input.old) (S.faults input.new) → ¬ Rose (E.faults notes.old) (E.faults notes.new) → result.0 ≢ 6 → result.0 ≡ 2 }
 
+    ensures counts { Counted (S.faults input.old) (S.faults input.new) (P.faults plan.old) (P.faults plan.new) (K.faults output.old) (K.faults output.new) (E.faults notes.old) (E.faults notes.new) result.0 }
     ensures plan_counted { P.faults plan.old ≤ P.faults plan.new }
     ensures input_counted { S.faults input.old ≤ S.faults input.new }
     ensures output_counted { K.faults output.old ≤ K.faults output.new }

@@ -1,4 +1,4 @@
-use Rattle.std.proofs.Common.{◌+◌, ◌-◌, true, false, refl, sym, ap, arith}
+use Rattle.std.proofs.Common.{◌+◌, ◌-◌, true, false, refl, sym, ap, ◌∙◌, arith}
 use Rattle.unix_model.specs.Calls.{call_of}
 use Rattle.unix_model.specs.Machine.{Going, ended}
 use Rattle.unix_model.specs.Schedule.{unix_run}
@@ -14,6 +14,8 @@ turns-init g c = record {
       goes_on-same g.S.Source.left g.K.Sink.grew (unix_run call_of c.args.turns (unix_of c.args.flat.now) (schedule_of c.args.schedule.now) bytes) bytes c.args.output.now c.args.turns (c.args.turns - 0) 0 0 false false (unix_of c.args.flat.now) (schedule_of c.begin.new.self) c.args.input.now c.args.output.now (omega arith) refl refl
       (run-begins g.S.Source.left g.K.Sink.grew c.args.turns (unix_of c.args.flat.now) (schedule_of c.args.schedule.now) (schedule_of c.begin.new.self) bytes c.args.input.now c.args.output.now g.met.K.Sink.grew_nothing c.begin.ensures told);
   few = omega arith;
+  input_same = refl;
+  output_same = refl;
   input_counted = omega arith;
   output_counted = omega arith;
 }
@@ -50,6 +52,8 @@ turns-preserved g c = record {
       (goes_on-more g.S.Source.left g.K.Sink.grew (unix_run call_of c.args.turns (unix_of c.args.flat.now) (schedule_of c.args.schedule.now) bytes) bytes c.args.output.now g.met.K.Sink.grew_joined (c.args.turns - c.turns.made) (c.args.turns - c.turns.made - c.in-Ok.advance.turns) c.turns.made c.in-Ok.advance.turns
       (unix_of c.turns.flat) (unix_of c.go_on.new.flat) (schedule_of c.turns.schedule) (schedule_of c.go_on.new.schedule) c.in-Ok.advance.idle c.turns.input c.go_on.new.input c.turns.output c.go_on.new.output (c.turns.invariant.so_far bytes told) c.in-Ok.ensures.goes_on);
   few = omega (arith, c.turns.invariant.few, c.from-made.ensures, c.in-Ok.ensures.few.1, c.turns-test.true);
+  input_same = c.in-Ok.ensures.same.0 ∙ c.turns.invariant.input_same;
+  output_same = c.in-Ok.ensures.same.1 ∙ c.turns.invariant.output_same;
   input_counted = omega (arith, c.turns.invariant.input_counted, c.go_on.ensures.input_counted);
   output_counted = omega (arith, c.turns.invariant.output_counted, c.go_on.ensures.output_counted);
 }

@@ -10,6 +10,8 @@ abbrev pub invariant-turns : goal.invariant-turns
 invariant-turns g l = record {
   so_far : (bytes : List ℕ) → g.S.Source.left l.fn.input ≡ Some bytes → GoesOn (unix_run call_of l.turns (unix_of l.fn.flat) (schedule_of l.fn.schedule) bytes) (l.turns - l.made) bytes g.S.Source.left g.K.Sink.grew (unix_of l.flat) (schedule_of l.schedule) l.made false l.input l.fn.output l.output;
   few : l.made ≤ l.turns;
+  input_same : g.S.Source.faults l.input ≡ g.S.Source.faults l.fn.input;
+  output_same : g.K.Sink.faults l.output ≡ g.K.Sink.faults l.fn.output;
   input_counted : g.S.Source.faults l.fn.input ≤ g.S.Source.faults l.input;
   output_counted : g.K.Sink.faults l.fn.output ≤ g.K.Sink.faults l.output;
 }
