@@ -208,3 +208,27 @@ fn each_call_of_a_session_may_fail(rt: HostRuntime) -> Result<(), Fail> {
     assert_eq!(rt; (left.status, left.notes.len()), (4, 0));
     Ok(())
 }
+
+#[test]
+fn each_call_of_a_pipeline_may_fail(rt: HostRuntime) -> Result<(), Fail> {
+    let line = b"cat /etc/motd | wc\n".as_slice();
+    // A call for each byte, and one that finds the end.
+    let calls = (SESSION.len() + line.len() + 1) as u32;
+    for call in 0..calls {
+        let left = session(rt.alloc(), line, [&[call], &[], &[]])?;
+        assert_eq!(rt; left.notes.as_slice(), b"read fault\n".as_slice());
+        assert_eq!(rt; left.status, 3);
+    }
+    // The output's calls, and that of the note.
+    let rows: [([&[u32]; 3], u8, &str); 3] = [
+        ([&[calls], &[1], &[1]], 0, "halted 0\n"),
+        ([&[], &[0], &[]], 4, "write fault\n"),
+        ([&[], &[], &[0]], 4, ""),
+    ];
+    for (fails, status, note) in rows {
+        let left = session(rt.alloc(), line, fails)?;
+        assert_eq!(rt; left.notes.as_slice(), note.as_bytes());
+        assert_eq!(rt; left.status, status);
+    }
+    Ok(())
+}
