@@ -1,28 +1,9 @@
--- Paths, part by part.
-use Rattle.std.proofs.Common.{◌≡◌, ℕ, zero, suc, ◌+◌, ◌<◌, List, [], ◌∷◌, length, take, drop, get_or, true, false, refl, ap, inl, inr, arith}
-use Rattle.std.specs.List.{list_any, slice_split, onto_first}
+-- What stands before the last slash of a path.
+use Rattle.std.proofs.Common.{◌≡◌, ℕ, zero, suc, ◌+◌, ◌<◌, List, [], ◌∷◌, length, take, get_or, true, false, refl, ap, inl, inr, arith}
+use Rattle.std.specs.List.{list_any}
 use Rattle.std.proofs.lemmas.Bool.{cases_Bool}
 use Rattle.unix_model.specs.Paths.{is_slash}
 use Rattle.bundle.specs.Paths.{parent_of}
-
--- a path up to its first slash
-pub split-first : (bytes : List ℕ) (i : ℕ) → i < length bytes → ((k : ℕ) → k < i → is_slash (get_or bytes k 0) ≡ false) → is_slash (get_or bytes i 0) ≡ true
-    → slice_split is_slash bytes ≡ take i bytes ∷ slice_split is_slash (drop (i + 1) bytes)
-split-first [] i inside none here = absurd (omega arith)
-split-first (byte ∷ bytes) zero inside none here = rw here refl
-split-first (byte ∷ bytes) (suc i) inside none here =
-    let first : is_slash byte ≡ false = none 0 (omega arith) in
-    let less : i < length bytes = omega arith in
-    let next : suc i + 1 ≡ suc (i + 1) = omega arith in
-    rw (first, next) (ap (onto_first byte) (split-first bytes i less (λ k below. none (suc k) (omega arith)) here))
-
-pub split-none : (bytes : List ℕ) → ((k : ℕ) → k < length bytes → is_slash (get_or bytes k 0) ≡ false) → slice_split is_slash bytes ≡ bytes ∷ []
-split-none [] none = refl
-split-none (byte ∷ bytes) none =
-    let first : is_slash byte ≡ false = none 0 (omega arith) in
-    rw first (ap (onto_first byte) (split-none bytes (λ k below. none (suc k) (omega arith))))
-
-pub ruleset slashes = (split-first, split-none)
 
 -- a slash is among bytes
 slash-there : (bytes : List ℕ) (i : ℕ) → i < length bytes → is_slash (get_or bytes i 0) ≡ true → list_any is_slash bytes ≡ true

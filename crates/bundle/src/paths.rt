@@ -104,7 +104,7 @@ fn has_nul(name: &[u8]) -> bool
 }
 
 // The place of the first slash.
-#[tactic(auto, using(crate::proofs::PathLaws::slashes))]
+#[tactic(auto, using(unix_model::proofs::PathLaws::slashes))]
 fn next_slash(bytes: &[u8]) -> Option<usize>
     ensures { MatchOption result (slice_split is_slash bytes.now ≡ bytes.now ∷ []) (λ end. (end < length bytes.now) × (slice_split is_slash bytes.now ≡ take end bytes.now ∷ slice_split is_slash (drop (end + 1) bytes.now))) }
 {

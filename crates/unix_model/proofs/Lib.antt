@@ -7,3 +7,4 @@ pub mod BootLaws
 pub mod TurnLaws
 pub mod RunLaws
 pub mod TextLaws
+pub mod PathLaws

@@ -34,7 +34,6 @@ pub mod Schedule
 -- The start, and what holds from there on
 pub mod Boot
 pub mod Rules
--- The texts of the program: its input, its words, its notes
+-- The texts of the program: its input and its notes
 pub mod Texts
-pub mod Words
 pub mod Notes
