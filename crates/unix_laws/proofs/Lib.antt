@@ -21,3 +21,5 @@ pub mod BootRuled
 pub mod PipesKeep
 pub mod DescriptorsKeep
 pub mod FewParents
+pub mod FewWritten
+pub mod PutsFew

@@ -2,6 +2,7 @@
 pub mod TurnLaws
 pub mod RuleLaws
 pub mod RoomLaws
+pub mod ConsoleLaws
 pub mod DescriptorLaws
 pub mod LastingLaws
 pub mod WaitingLaws

@@ -5,6 +5,7 @@
 #![tactic(auto)]
 
 mod calls;
+mod console;
 mod descriptors;
 mod lasting;
 mod room;
@@ -16,6 +17,7 @@ pub use calls::{
     boot_pipes_fit, fork_leaves_child, new_name_goes, pipe_gives_front, pipe_takes_at_end,
     pipes_kept, write_then_read, written_is_read,
 };
+pub use console::{run_puts_few, turn_puts_few};
 pub use descriptors::{
     free_description_exists, sent_descriptors_are_open, two_free_descriptions_exist,
 };
