@@ -89,7 +89,7 @@ module _ (setup : Setup) where
   unread-boots bytes left (ending.Halted word) elf never = never
   unread-boots bytes left (ending.TurnsSpent made) elf never = never
   unread-boots bytes left (ending.Idle made) elf never = never
-  unread-boots bytes left ending.Assembled elf never = never
+  unread-boots bytes left ending.Done elf never = never
   unread-boots bytes left ending.Usage elf never = never
   unread-boots bytes left (ending.NotAssembled kind line) elf never = never
   unread-boots bytes left (ending.BadPlan line) elf never = never
@@ -187,7 +187,7 @@ module _ {S K : Type 0} (setup : Setup) (schedule : Schedule) (left : S → Opti
   unbooted-ends bytes after (ending.Halted word) never = absurd never
   unbooted-ends bytes after (ending.TurnsSpent made) never = absurd never
   unbooted-ends bytes after (ending.Idle made) never = absurd never
-  unbooted-ends bytes after ending.Assembled never = absurd never
+  unbooted-ends bytes after ending.Done never = absurd never
   unbooted-ends bytes after ending.Usage never = absurd never
   unbooted-ends bytes after (ending.NotAssembled kind line) never = absurd never
   unbooted-ends bytes after (ending.BadPlan line) never = absurd never

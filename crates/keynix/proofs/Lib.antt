@@ -3,5 +3,8 @@ pub mod RunSteps
 pub mod GivenLaws
 pub mod BootSteps
 pub mod PlanSteps
+pub mod StatusSteps
+pub mod LoadSteps
+pub mod WorkSteps
 pub mod Told
 pub mod LongSource

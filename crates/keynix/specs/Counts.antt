@@ -5,7 +5,7 @@ use Rattle.kn_io.specs.Faults.{Rose}
 use Rattle.flat_unix.specs.declared.flat.FlatFault.{FlatFault}
 use Rattle.flat_unix.specs.declared.flat.FlatFault.TheVariants as flat
 use Rattle.keynix.specs.declared.ending.Ending.{Ending}
-use Rattle.keynix.specs.declared.ending.Ending.TheVariants.{Halted, TurnsSpent, Idle, Assembled, Usage, Refused, NotAssembled, BadPlan, ReadFault, WriteFault, NoMemory}
+use Rattle.keynix.specs.declared.ending.Ending.TheVariants.{Halted, TurnsSpent, Idle, Done, Usage, Refused, NotAssembled, BadPlan, ReadFault, WriteFault, NoMemory}
 
 -- by the ending of a command: what is read from, and what is written to
 abbrev pub CountsStay : (read write : Type 0) → Ending → Type 0
@@ -14,7 +14,7 @@ CountsStay read write WriteFault = read
 CountsStay read write (Halted word) = read × write
 CountsStay read write (TurnsSpent turns) = read × write
 CountsStay read write (Idle turns) = read × write
-CountsStay read write Assembled = read × write
+CountsStay read write Done = read × write
 CountsStay read write Usage = read × write
 CountsStay read write (Refused refusal) = read × write
 CountsStay read write (NotAssembled kind line) = read × write

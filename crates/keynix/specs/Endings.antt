@@ -12,7 +12,7 @@ use Rattle.unix_model.specs.Calls.{call_of}
 use Rattle.rv_asm.specs.Files.{IsFile}
 use Rattle.rv_asm.specs.Programs as asm
 use Rattle.keynix.specs.declared.ending.Ending.{Ending}
-use Rattle.keynix.specs.declared.ending.Ending.TheVariants.{Halted, TurnsSpent, Idle, Assembled, Usage, Refused, NotAssembled, BadPlan, ReadFault, WriteFault, NoMemory}
+use Rattle.keynix.specs.declared.ending.Ending.TheVariants.{Halted, TurnsSpent, Idle, Done, Usage, Refused, NotAssembled, BadPlan, ReadFault, WriteFault, NoMemory}
 use Rattle.keynix.specs.declared.ending.Refusal.TheVariants.{NoRoom, Elf}
 use Rattle.keynix.specs.declared.schedule.Schedule as own
 use Rattle.keynix.specs.Schedules.{schedule_of}
@@ -77,7 +77,7 @@ IsCaused read write WriteFault = write
 IsCaused read write (Halted word) = Unit {0}
 IsCaused read write (TurnsSpent turns) = Unit {0}
 IsCaused read write (Idle turns) = Unit {0}
-IsCaused read write Assembled = Unit {0}
+IsCaused read write Done = Unit {0}
 IsCaused read write Usage = ⊥
 IsCaused read write (Refused refusal) = Unit {0}
 IsCaused read write (NotAssembled kind line) = Unit {0}
@@ -110,7 +110,7 @@ RunsOn whole input left grew source old new (Idle made) = RunsWhole whole input 
 RunsOn whole input left grew source old new ReadFault = PutsPart whole grew old new
 RunsOn whole input left grew source old new WriteFault = PutsPart whole grew old new
 RunsOn whole input left grew source old new NoMemory = PutsPart whole grew old new
-RunsOn whole input left grew source old new Assembled = ⊥
+RunsOn whole input left grew source old new Done = ⊥
 RunsOn whole input left grew source old new Usage = ⊥
 RunsOn whole input left grew source old new (Refused refusal) = ⊥
 RunsOn whole input left grew source old new (NotAssembled kind line) = ⊥
@@ -125,7 +125,7 @@ RefusesAs refusal old new WriteFault = ⊥
 RefusesAs refusal old new (Halted word) = ⊥
 RefusesAs refusal old new (TurnsSpent turns) = ⊥
 RefusesAs refusal old new (Idle turns) = ⊥
-RefusesAs refusal old new Assembled = ⊥
+RefusesAs refusal old new Done = ⊥
 RefusesAs refusal old new Usage = ⊥
 RefusesAs refusal old new (NotAssembled kind line) = ⊥
 RefusesAs refusal old new (BadPlan line) = ⊥
@@ -143,7 +143,7 @@ IsUnread read WriteFault = ⊥
 IsUnread read (Halted word) = ⊥
 IsUnread read (TurnsSpent turns) = ⊥
 IsUnread read (Idle turns) = ⊥
-IsUnread read Assembled = ⊥
+IsUnread read Done = ⊥
 IsUnread read Usage = ⊥
 IsUnread read (Refused refusal) = ⊥
 IsUnread read (NotAssembled kind line) = ⊥
@@ -165,7 +165,7 @@ RefusesPlanAs line source_old source_new old new WriteFault = ⊥
 RefusesPlanAs line source_old source_new old new (Halted word) = ⊥
 RefusesPlanAs line source_old source_new old new (TurnsSpent turns) = ⊥
 RefusesPlanAs line source_old source_new old new (Idle turns) = ⊥
-RefusesPlanAs line source_old source_new old new Assembled = ⊥
+RefusesPlanAs line source_old source_new old new Done = ⊥
 RefusesPlanAs line source_old source_new old new Usage = ⊥
 RefusesPlanAs line source_old source_new old new (Refused refusal) = ⊥
 RefusesPlanAs line source_old source_new old new (NotAssembled kind line_told) = ⊥
@@ -180,7 +180,7 @@ EndsPlan plan left (BadPlan line) = Unit {0}
 EndsPlan plan left ReadFault = Unit {0}
 EndsPlan plan left WriteFault = Unit {0}
 EndsPlan plan left NoMemory = Unit {0}
-EndsPlan plan left Assembled = Unit {0}
+EndsPlan plan left Done = Unit {0}
 EndsPlan plan left Usage = Unit {0}
 EndsPlan plan left (NotAssembled kind line) = Unit {0}
 
@@ -200,7 +200,7 @@ ReadsPlan plan told left (Err WriteFault) = ⊥
 ReadsPlan plan told left (Err (Halted word)) = ⊥
 ReadsPlan plan told left (Err (TurnsSpent turns)) = ⊥
 ReadsPlan plan told left (Err (Idle turns)) = ⊥
-ReadsPlan plan told left (Err Assembled) = ⊥
+ReadsPlan plan told left (Err Done) = ⊥
 ReadsPlan plan told left (Err Usage) = ⊥
 ReadsPlan plan told left (Err (Refused refusal)) = ⊥
 ReadsPlan plan told left (Err (NotAssembled kind line)) = ⊥
@@ -225,7 +225,7 @@ pub record WritesPart {K : Type 0} (meaning : Result asm.Program asm.Refusal) (g
 
 -- the ending of `asm` by the meaning of its source
 abbrev pub EndsAssembly : {S K : Type 0} → Result asm.Program asm.Refusal → (S → Option (List ℕ)) → (K → List ℕ → K → Type 0) → S → K → K → Ending → Type 0
-EndsAssembly meaning left grew source old new Assembled = WritesFile meaning left grew source old new
+EndsAssembly meaning left grew source old new Done = WritesFile meaning left grew source old new
 EndsAssembly meaning left grew source old new (NotAssembled kind line) = meaning ≡ Err (record { kind = kind; line = line })
 EndsAssembly meaning left grew source old new (BadPlan line) = ⊥
 EndsAssembly meaning left grew source old new WriteFault = WritesPart meaning grew old new
@@ -239,7 +239,7 @@ EndsAssembly meaning left grew source old new (Refused refusal) = ⊥
 
 -- the endings of `asm`, whatever is told of the input: the output is as before where no file was written
 abbrev pub KeepsOutput : {K : Type 0} → K → K → Ending → Type 0
-KeepsOutput old new Assembled = Unit {0}
+KeepsOutput old new Done = Unit {0}
 KeepsOutput old new WriteFault = Unit {0}
 KeepsOutput old new (NotAssembled kind line) = new ≡ old
 KeepsOutput old new (BadPlan line) = ⊥

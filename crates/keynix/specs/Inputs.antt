@@ -11,7 +11,7 @@ use Rattle.flat_bundle.specs.Booting.{Booted, BootsText}
 use Rattle.flat_bundle.specs.declared.fault.BootFault.{BootFault}
 use Rattle.flat_bundle.specs.declared.fault.BootFault.TheVariants as fault
 use Rattle.keynix.specs.declared.ending.Ending.{Ending}
-use Rattle.keynix.specs.declared.ending.Ending.TheVariants.{Halted, TurnsSpent, Idle, Assembled, Usage, Refused, NotAssembled, BadPlan, ReadFault, WriteFault, NoMemory}
+use Rattle.keynix.specs.declared.ending.Ending.TheVariants.{Halted, TurnsSpent, Idle, Done, Usage, Refused, NotAssembled, BadPlan, ReadFault, WriteFault, NoMemory}
 use Rattle.keynix.specs.declared.ending.Refusal as own
 use Rattle.keynix.specs.declared.ending.Refusal.TheVariants.{At, NoRoom, Elf}
 use Rattle.keynix.specs.Words.{Setup}
@@ -63,7 +63,7 @@ BootsAs setup bytes left (Err WriteFault) = ⊥
 BootsAs setup bytes left (Err (Halted word)) = ⊥
 BootsAs setup bytes left (Err (TurnsSpent turns)) = ⊥
 BootsAs setup bytes left (Err (Idle turns)) = ⊥
-BootsAs setup bytes left (Err Assembled) = ⊥
+BootsAs setup bytes left (Err Done) = ⊥
 BootsAs setup bytes left (Err Usage) = ⊥
 BootsAs setup bytes left (Err (NotAssembled kind line)) = ⊥
 BootsAs setup bytes left (Err (BadPlan line)) = ⊥
@@ -80,7 +80,7 @@ Reads bytes left (Err WriteFault) = ⊥
 Reads bytes left (Err (Halted word)) = ⊥
 Reads bytes left (Err (TurnsSpent turns)) = ⊥
 Reads bytes left (Err (Idle turns)) = ⊥
-Reads bytes left (Err Assembled) = ⊥
+Reads bytes left (Err Done) = ⊥
 Reads bytes left (Err Usage) = ⊥
 Reads bytes left (Err (NotAssembled kind line)) = ⊥
 Reads bytes left (Err (BadPlan line)) = ⊥

@@ -6,5 +6,6 @@ pub mod Runs
 pub mod Inputs
 pub mod Endings
 pub mod Telling
+pub mod Loads
 pub mod Counts
 pub mod Promises

@@ -10,7 +10,7 @@ use Rattle.rv_asm.specs.declared.fault.AsmKind.{AsmKind}
 use Rattle.rv_asm.specs.declared.fault.AsmKind.TheVariants.{Syntax, UnknownLabel, DoubleLabel, OutOfRange, TooLong}
 use Rattle.rv_asm.specs.Programs as asm
 use Rattle.keynix.specs.declared.ending.Ending.{Ending}
-use Rattle.keynix.specs.declared.ending.Ending.TheVariants.{Halted, TurnsSpent, Idle, Assembled, Usage, Refused, NotAssembled, BadPlan, ReadFault, WriteFault, NoMemory}
+use Rattle.keynix.specs.declared.ending.Ending.TheVariants.{Halted, TurnsSpent, Idle, Done, Usage, Refused, NotAssembled, BadPlan, ReadFault, WriteFault, NoMemory}
 use Rattle.bundle.specs.declared.fault.BundleKind.{BundleKind}
 use Rattle.bundle.specs.declared.fault.BundleKind.TheVariants as bundle
 use Rattle.flat_bundle.specs.Booting.{Refusal, At, NoRoom, BadProgram}
@@ -90,7 +90,7 @@ abbrev pub ending_note : Ending → Option (List ℕ)
 ending_note (Halted word) = Some (halted_note word)
 ending_note (TurnsSpent turns) = Some (spent_note turns)
 ending_note (Idle turns) = Some (idle_note turns)
-ending_note Assembled = None
+ending_note Done = None
 ending_note Usage = Some usage_note
 ending_note (Refused refusal) = Some (refusal_note (refusal_of refusal))
 ending_note (NotAssembled kind line) = Some (source_note (record { kind = kind; line = line }))
@@ -101,7 +101,7 @@ ending_note NoMemory = Some no_memory_note
 
 abbrev pub ending_status : Ending → ℕ
 ending_status (Halted word) = 0
-ending_status Assembled = 0
+ending_status Done = 0
 ending_status Usage = 1
 ending_status (Refused refusal) = 2
 ending_status (NotAssembled kind line) = 2
@@ -117,7 +117,7 @@ abbrev pub TakesMemory : Ending → Type 0
 TakesMemory (Halted word) = Unit {0}
 TakesMemory (TurnsSpent turns) = Unit {0}
 TakesMemory (Idle turns) = Unit {0}
-TakesMemory Assembled = ⊥
+TakesMemory Done = ⊥
 TakesMemory Usage = ⊥
 TakesMemory (Refused refusal) = Unit {0}
 TakesMemory (NotAssembled kind line) = Unit {0}

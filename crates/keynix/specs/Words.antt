@@ -1,5 +1,5 @@
 -- The words of the command line: a disk, a command, and its options. Every other list of words is no command.
-use Rattle.std.specs.Prelude.{ℕ, ◌%◌, Bool, false, not, ◌||◌, List, [], ◌∷◌, Option, Some, None, codes, bytes_eq, ◌==◌, nat_lt, option_map, unwrap_or, if◌then◌else◌}
+use Rattle.std.specs.Prelude.{ℕ, ◌-◌, ◌%◌, ◌^◌, Bool, false, not, ◌||◌, List, [], ◌∷◌, Option, Some, None, codes, bytes_eq, ◌==◌, nat_lt, option_map, unwrap_or, if◌then◌else◌}
 use Rattle.unix_model.specs.Limits.{least_pages, most_pages, most_quantum}
 use Rattle.unix_model.specs.Texts.{number_of}
 
@@ -18,10 +18,17 @@ pub record Setup : Type 0 where
   pub turns : ℕ
   pub plan : Plan
 
+-- what `work` is given: the seed of the numbers of its file, and how many lines that has
+pub record Load : Type 0 where
+  pub seed : ℕ
+  pub lines : ℕ
+
 -- a command with its options
 pub data Command : Type 0 where
   -- boot the input in memory and run it
   Once : (setup : Setup) → Command
+  -- boot a load of its own in memory, run it, and sum up what it put
+  Work : (load : Load) → Command
   -- assemble the input, and write the ELF file
   Asm : Command
 
@@ -38,6 +45,16 @@ default_pages = 2048
 
 unfoldable pub default_quantum : ℕ
 default_quantum = 100
+
+-- the seed and the lines of a load where no option says them, and the most that one may say
+unfoldable pub default_seed : ℕ
+default_seed = 1
+
+unfoldable pub default_lines : ℕ
+default_lines = 1000
+
+unfoldable pub most_lines : ℕ
+most_lines = 100000
 
 -- what follows a prefix
 abbrev pub after_prefix : List ℕ → List ℕ → Option (List ℕ)
@@ -69,6 +86,17 @@ turns_of text = number_of most_turns text
 
 abbrev pub plan_of : List ℕ → Option Plan
 plan_of text = if bytes_eq text (codes "round") then Some Round else if bytes_eq text (codes "given") then Some Given else None
+
+-- a seed is any word, and there is at least one line
+abbrev pub seed_of : List ℕ → Option ℕ
+seed_of text = number_of (2 ^ 32 - 1) text
+
+abbrev pub lines_told : Option ℕ → Option ℕ
+lines_told None = None
+lines_told (Some number) = if number == 0 then None else Some number
+
+abbrev pub lines_of : List ℕ → Option ℕ
+lines_of text = lines_told (number_of most_lines text)
 
 -- ---- options
 
@@ -119,6 +147,34 @@ options_of words None = None
 options_of [] (Some options) = Some options
 options_of (word ∷ words) (Some options) = options_of words (with_option options word)
 
+-- ---- options of a load
+
+pub record LoadOptions : Type 0 where
+  pub seed : Option ℕ
+  pub lines : Option ℕ
+
+abbrev pub no_load_options : LoadOptions
+no_load_options = record { seed = None; lines = None }
+
+abbrev pub with_seed : LoadOptions → List ℕ → Option LoadOptions
+with_seed options text = option_map (λ value. record options { seed = Some value }) (given_once options.seed (seed_of text))
+
+abbrev pub with_lines : LoadOptions → List ℕ → Option LoadOptions
+with_lines options text = option_map (λ value. record options { lines = Some value }) (given_once options.lines (lines_of text))
+
+abbrev pub with_load_value : LoadOptions → (seed lines : Option (List ℕ)) → Option LoadOptions
+with_load_value options (Some text) lines = with_seed options text
+with_load_value options None (Some text) = with_lines options text
+with_load_value options None None = None
+
+abbrev pub with_load_option : LoadOptions → List ℕ → Option LoadOptions
+with_load_option options word = with_load_value options (after_prefix (codes "--seed=") word) (after_prefix (codes "--lines=") word)
+
+abbrev pub load_options_of : List (List ℕ) → Option LoadOptions → Option LoadOptions
+load_options_of words None = None
+load_options_of [] (Some options) = Some options
+load_options_of (word ∷ words) (Some options) = load_options_of words (with_load_option options word)
+
 -- ---- commands
 
 -- what options say
@@ -136,6 +192,19 @@ abbrev pub once_with : Option Options → Option Command
 once_with None = None
 once_with (Some options) = Some (Once (setup_of options))
 
+-- what options say of a load
+abbrev pub load_of : LoadOptions → Load
+load_of options = record { seed = unwrap_or options.seed default_seed; lines = unwrap_or options.lines default_lines }
+
+-- `work` with its options
+abbrev pub work_with : Option LoadOptions → Option Command
+work_with None = None
+work_with (Some options) = Some (Work (load_of options))
+
+-- the machine and the run of `work`: those of `once` without an option
+abbrev pub default_setup : Setup
+default_setup = setup_of no_options
+
 -- `asm`, which has no options
 abbrev pub asm_with : List (List ℕ) → Option Command
 asm_with [] = Some Asm
@@ -145,6 +214,7 @@ asm_with (word ∷ words) = None
 abbrev pub command_named : List ℕ → List (List ℕ) → Option Command
 command_named word words =
     if bytes_eq word (codes "once") then once_with (options_of words (Some no_options)) else
+    if bytes_eq word (codes "work") then work_with (load_options_of words (Some no_load_options)) else
     if bytes_eq word (codes "asm") then asm_with words else
     None
 

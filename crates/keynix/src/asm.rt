@@ -36,7 +36,7 @@ pub fn asm<S: Source, K: Sink>(alloc: Global, input: &mut S, output: &mut K) -> 
         Err(AsmFault::NoMemory) => return Ending::NoMemory,
     };
     match output.put(file.as_slice()) {
-        Ok(()) => Ending::Assembled,
+        Ok(()) => Ending::Done,
         Err(_) => Ending::WriteFault,
     }
 }

@@ -24,8 +24,8 @@ pub enum Ending {
     TurnsSpent(u64),
     /// After so many turns the machine is idle: no turn would change anything any more.
     Idle(u64),
-    /// The source was assembled, and its file written.
-    Assembled,
+    /// What was asked for was written: the file of a source, or the summary of a load test.
+    Done,
     /// The words are no command.
     Usage,
     /// The input was refused.

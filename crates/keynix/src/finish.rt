@@ -24,7 +24,7 @@ fn status_of(ending: Ending) -> u8
 {
     match ending {
         Ending::Halted(_) => 0,
-        Ending::Assembled => 0,
+        Ending::Done => 0,
         Ending::Usage => 1,
         Ending::Refused(_) | Ending::NotAssembled { .. } | Ending::BadPlan { .. } => 2,
         Ending::ReadFault => 3,
@@ -197,7 +197,7 @@ pub fn finish<E: Sink>(alloc: Global, notes: &mut E, ending: Ending) -> Status
         Ending::Halted(word) => tell_text(notes, ending, halted(alloc, word)),
         Ending::TurnsSpent(turns) => tell_text(notes, ending, spent(alloc, turns)),
         Ending::Idle(turns) => tell_text(notes, ending, idle(alloc, turns)),
-        Ending::Assembled => Status(status_of(ending)),
+        Ending::Done => Status(status_of(ending)),
         Ending::Usage => tell(
             notes,
             ending,

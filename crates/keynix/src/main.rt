@@ -7,6 +7,7 @@ mod ending;
 mod fault;
 mod finish;
 mod given;
+mod load_words;
 mod once;
 mod options;
 mod run;
@@ -16,6 +17,7 @@ mod setup;
 mod tests;
 mod top;
 mod words;
+mod work;
 
 use crate::finish::Status;
 use crate::top::keynix;

@@ -63,7 +63,7 @@ fn schedule_for<P: Source>(alloc: Global, plan: Plan, from: &mut P) -> Result<Sc
 }
 
 /// Boots the input, and runs it under a schedule.
-fn run_input<S: Source, K: Sink>(
+pub fn run_input<S: Source, K: Sink>(
     alloc: Global,
     setup: Setup,
     schedule: Schedule,

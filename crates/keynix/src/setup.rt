@@ -1,4 +1,4 @@
-//! What `once` is given.
+//! What commands are given.
 
 ghost use Rattle.std.specs.Prelude.{◌≤◌};
 
@@ -23,4 +23,14 @@ pub struct Setup {
     pub plan: Plan,
     ghost pages_fit: { (64 ≤ pages) × (pages ≤ 16384) },
     ghost quantum_fits: { (1 ≤ quantum) × (quantum ≤ 10000) },
+}
+
+/// The load of `work`.
+#[derive(Clone, Copy, Debug, PartialEq, Eq)]
+pub struct Load {
+    /// The number from which those of the load's file follow.
+    pub seed: u32,
+    /// The lines of that file, 1 to 100,000.
+    pub lines: u32,
+    ghost lines_fit: { (1 ≤ lines) × (lines ≤ 100000) },
 }

@@ -2,6 +2,7 @@
 
 mod assembling;
 mod bundles;
+mod loads;
 mod schedules;
 
 use crate::finish::Status;
@@ -414,7 +415,7 @@ fn turns_are_counted_by_the_option(rt: HostRuntime) -> Result<(), Fail> {
 
 #[test]
 fn words_outside_the_grammar_are_usage(rt: HostRuntime) -> Result<(), Fail> {
-    let outside: [&[&str]; 40] = [
+    let outside: [&[&str]; 50] = [
         &[],
         &["d"],
         &["", "once"],
@@ -455,6 +456,16 @@ fn words_outside_the_grammar_are_usage(rt: HostRuntime) -> Result<(), Fail> {
         &["d", "asm", "asm"],
         &["d", "asm", "--turns=5"],
         &["d", "Asm"],
+        &["d", "work", ""],
+        &["-d", "work"],
+        &["d", "work", "--seed="],
+        &["d", "work", "--seed=4294967296"],
+        &["d", "work", "--seed=1", "--seed=1"],
+        &["d", "work", "--lines=0"],
+        &["d", "work", "--lines=100001"],
+        &["d", "work", "--lines=1", "--seed=1", "--lines=1"],
+        &["d", "work", "--turns=5"],
+        &["d", "once", "--lines=5"],
     ];
     for words in outside {
         let left = run(rt.alloc(), words, &EXIT_7)?;

@@ -5,19 +5,22 @@ ghost use Rattle.kn_io.specs.Faults.{Rose};
 ghost use Rattle.kn_io.specs.Sink.{GrewByPrefix};
 ghost use Rattle.rv_asm.specs.Programs.{Program, Refusal as SourceRefusal, assembled};
 ghost use Rattle.flat_bundle.specs.Booting.{Booted, Refusal};
+ghost use Rattle.unix_model.specs.Machine.{Idle};
+ghost use Rattle.unix_model.specs.Notes.{spent_note};
 ghost use Rattle.unix_model.specs.Schedule.{Schedule};
 ghost use Rattle.keynix.specs.Counts.{Counted};
-ghost use Rattle.keynix.specs.Words.{Asm, Once, Setup, command_of};
-ghost use Rattle.keynix.specs.Endings.{FromPlan, IsPlan, WritesFile, WritesPart, run_of, schedule_told};
+ghost use Rattle.keynix.specs.Words.{Asm, Load, Once, Setup, Work, command_of};
+ghost use Rattle.keynix.specs.Endings.{FromPlan, IsPlan, IsSpent, WritesFile, WritesPart, run_of, schedule_told};
 ghost use Rattle.keynix.specs.Inputs.{IsBoot};
-ghost use Rattle.keynix.specs.Promises.{Answers, HaltsOn, IdlesOn, IsPlanOf, KeepsPlanOf, ReadCause, RefusesOn, SpendsOn, is_status, stop_status};
-ghost use Rattle.keynix.specs.Telling.{PutsPartOfNote, no_memory_note, read_fault_note, usage_note, write_fault_note};
+ghost use Rattle.keynix.specs.Promises.{Answers, HaltsOn, KeepsInputOf, KeepsPlanOf, LoadTold, ReadCause, RefusesInput, RefusesPlan, RefusesSource, StopsOn, is_status, stop_status};
+ghost use Rattle.keynix.specs.Telling.{PutsPartOfNote, idle_note, no_memory_note, read_fault_note, usage_note, write_fault_note};
 
 use crate::asm::asm;
 use crate::ending::Ending;
 use crate::finish::{Status, finish};
 use crate::once::once;
 use crate::words::{Command, parse};
+use crate::work::work;
 use flat_bundle::one_outcome_law;
 use kn_io::{Sink, Source};
 use std::alloc::Global;
@@ -44,6 +47,10 @@ fn perform<S: Source, P: Source, K: Sink, E: Sink>(
             let ending = once(alloc, setup, plan, input, output);
             finish(alloc, notes, ending)
         }
+        Some(Command::Work(load)) => {
+            let ending = work(alloc, load, output);
+            finish(alloc, notes, ending)
+        }
         Some(Command::Asm) => {
             let ending = asm(alloc, input, output);
             finish(alloc, notes, ending)
@@ -52,11 +59,11 @@ fn perform<S: Source, P: Source, K: Sink, E: Sink>(
 }
 
 /// All that the program does: does what `words` say over the plan, the input, the output and the notes, and gives the
-/// status with which it ends. Each ending but that of a written file puts one note, in one put. The plan is read only where
-/// the words ask for it, and before the input is looked at.
+/// status with which it ends. Each ending but that of a written file or summary puts one note, in one put. The plan is read
+/// only where the words ask for it, and before the input is looked at; the load test reads neither.
 ///
-/// 0: the machine of the input halted, or the file of the source was written. 1: the words are no command. 2: the plan or
-/// the input is refused. 3: a call of the plan or of the input failed. 4: a call of the output or of the notes failed. 6:
+/// 0: the machine of the input halted, the file of the source was written, or the summary of a load test. 1: the words are no
+/// command. 2: the plan or the input is refused. 3: a call of the plan or of the input failed. 4: a call of the output or of the notes failed. 6:
 /// host memory ran out. 9: all turns were made, or all that the plan gives. 10: the machine is idle, so that no turn would
 /// change anything any more.
 ///
@@ -70,19 +77,22 @@ pub fn keynix<S: Source, P: Source, K: Sink, E: Sink>(
     output: &mut K,
     notes: &mut E,
 ) -> Status
-    ensures status { is_status result.0 ≡ true }
+    ensures status { is_status (command_of (map string_bytes words.now)) result.0 ≡ true }
     ensures halted { result.0 ≡ 0 → (setup : Setup) (text bytes : List ℕ) → command_of (map string_bytes words.now) ≡ Some (Once setup) → IsPlan setup.plan (P.left plan.old) text → S.left input.old ≡ Some bytes → HaltsOn setup text bytes S.left K.grew E.grew (P.left plan.new) input.new output.old output.new notes.old notes.new }
     ensures written { result.0 ≡ 0 → (bytes : List ℕ) → command_of (map string_bytes words.now) ≡ Some Asm → S.left input.old ≡ Some bytes → WritesFile (assembled bytes) S.left K.grew input.new output.old output.new × (notes.new ≡ notes.old) }
-    ensures spent { result.0 ≡ 9 → (text bytes : List ℕ) → IsPlanOf (command_of (map string_bytes words.now)) (P.left plan.old) text → S.left input.old ≡ Some bytes → SpendsOn (command_of (map string_bytes words.now)) text bytes S.left K.grew E.grew (P.left plan.new) input.new output.old output.new notes.old notes.new }
-    ensures idled { result.0 ≡ 10 → (text bytes : List ℕ) → IsPlanOf (command_of (map string_bytes words.now)) (P.left plan.old) text → S.left input.old ≡ Some bytes → IdlesOn (command_of (map string_bytes words.now)) text bytes S.left K.grew E.grew (P.left plan.new) input.new output.old output.new notes.old notes.new }
-    ensures refused { result.0 ≡ 2 → (text bytes : List ℕ) → IsPlanOf (command_of (map string_bytes words.now)) (P.left plan.old) text → S.left input.old ≡ Some bytes → RefusesOn (command_of (map string_bytes words.now)) text bytes E.grew (P.left plan.new) notes.old notes.new }
+    ensures loaded { (load : Load) → command_of (map string_bytes words.now) ≡ Some (Work load) → LoadTold load K.grew E.grew (Rose (K.faults output.old) (K.faults output.new)) (Rose (E.faults notes.old) (E.faults notes.new)) output.old output.new notes.old notes.new result.0 }
+    ensures spent { result.0 ≡ 9 → (setup : Setup) (text bytes : List ℕ) → command_of (map string_bytes words.now) ≡ Some (Once setup) → IsPlan setup.plan (P.left plan.old) text → S.left input.old ≡ Some bytes → StopsOn setup IsSpent spent_note text bytes S.left K.grew E.grew (P.left plan.new) input.new output.old output.new notes.old notes.new }
+    ensures idled { result.0 ≡ 10 → (setup : Setup) (text bytes : List ℕ) → command_of (map string_bytes words.now) ≡ Some (Once setup) → IsPlan setup.plan (P.left plan.old) text → S.left input.old ≡ Some bytes → StopsOn setup (λ stop. stop ≡ Idle) idle_note text bytes S.left K.grew E.grew (P.left plan.new) input.new output.old output.new notes.old notes.new }
+    ensures refused { result.0 ≡ 2 → (setup : Setup) (text bytes : List ℕ) → command_of (map string_bytes words.now) ≡ Some (Once setup) → IsPlan setup.plan (P.left plan.old) text → S.left input.old ≡ Some bytes → RefusesPlan setup text E.grew notes.old notes.new ⊎ RefusesInput setup text bytes E.grew (P.left plan.new) notes.old notes.new }
+    ensures refused_source { result.0 ≡ 2 → (bytes : List ℕ) → command_of (map string_bytes words.now) ≡ Some Asm → S.left input.old ≡ Some bytes → RefusesSource bytes E.grew notes.old notes.new }
 
     // The words.
     ensures usage { result.0 ≡ 1 → (command_of (map string_bytes words.now) ≡ None) × E.grew notes.old usage_note notes.new }
     ensures usage_exactly { command_of (map string_bytes words.now) ≡ None → (result.0 ≡ 1) ⊎ ((result.0 ≡ 4) × Rose (E.faults notes.old) (E.faults notes.new)) }
-    ensures usage_untouched { command_of (map string_bytes words.now) ≡ None → (input.new ≡ input.old) × (output.new ≡ output.old) }
+    ensures usage_output { command_of (map string_bytes words.now) ≡ None → output.new ≡ output.old }
 
-    // The plan: as before where it isn't asked for; where it is refused, nothing else was looked at.
+    // The plan and the input: as before where they aren't asked for; where the plan is refused, nothing else was looked at.
+    ensures input_kept { KeepsInputOf (command_of (map string_bytes words.now)) input.old input.new }
     ensures plan_kept { KeepsPlanOf (command_of (map string_bytes words.now)) plan.old plan.new }
     ensures plan_first { (setup : Setup) (text : List ℕ) (line : ℕ) → command_of (map string_bytes words.now) ≡ Some (Once setup) → IsPlan setup.plan (P.left plan.old) text → schedule_told setup.plan text ≡ Err line
         → (input.new ≡ input.old) × (output.new ≡ output.old) }

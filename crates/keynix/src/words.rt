@@ -4,8 +4,8 @@ ghost use Rattle.std.specs.Prelude.{◌≡◌, ◌≤◌, Some, IfSome, codes, m
 ghost use Rattle.keynix.specs.Words as model;
 ghost use Rattle.keynix.specs.WordsView.{command_view, options_view, plan_view, setup_view};
 
-use crate::options::Options;
-use crate::setup::{Plan, Setup};
+use crate::options::{LoadOptions, Options};
+use crate::setup::{Load, Plan, Setup};
 use kn_text::number_of;
 
 /// A command with its options.
@@ -13,6 +13,8 @@ use kn_text::number_of;
 pub enum Command {
     /// Boot the input in memory and run it.
     Once(Setup),
+    /// Boot a load of its own in memory, run it, and sum up what it put.
+    Work(Load),
     /// Assemble the input, and write the ELF file.
     Asm,
 }
@@ -259,6 +261,13 @@ impl Options {
     }
 }
 
+/// The machine and the run of a command without an option for it.
+pub fn default_setup() -> Setup
+    ensures { setup_view result ≡ model.default_setup }
+{
+    Options::none().setup()
+}
+
 /// The options that the words after a command give.
 fn read_options(words: &[String]) -> Option<Options>
     ensures { option_map options_view result ≡ model.options_of (map string_bytes words.now) (Some model.no_options) }
@@ -280,6 +289,11 @@ fn command_named(word: &str, words: &[String]) -> Option<Command>
     if word == "once" {
         match read_options(words) {
             Some(options) => Some(Command::Once(options.setup())),
+            None => None,
+        }
+    } else if word == "work" {
+        match LoadOptions::read(words) {
+            Some(options) => Some(Command::Work(options.load())),
             None => None,
         }
     } else if word == "asm" {

@@ -1,34 +1,35 @@
 -- Boot gives rules of a state.
-use Rattle.std.proofs.Common.{length, ◌≡◌, ℕ, zero, suc, ◌%◌, true, false, List, ◌∷◌, Option, Some, None, arith, refl, sym, subst, ap, ◌∙◌, inl, inr, get_or}
+use Rattle.std.proofs.Common.{length, ◌≡◌, ℕ, zero, suc, ◌%◌, true, false, List, ◌∷◌, Option, Some, None, Ok, arith, refl, sym, subst, ap, ◌∙◌, inl, inr, get_or}
 use Rattle.std.proofs.lemmas.Bool.Decides.{eqb_tells}
 use Rattle.std.proofs.lemmas.Bool.{cases_lt}
 use Rattle.std.proofs.lemmas.List.{get_or-replicate, get_or_past, length-replicate}
 use Rattle.std.specs.Prelude.{IsSome, is_some, replicate}
-use Rattle.unix_model.specs.Boot.{console_description, empty_machine, first_process, started}
+use Rattle.unix_model.specs.Boot.{BootEntry, console_description, empty_machine, first_process, started, with_boot_entries, with_init}
 use Rattle.unix_model.specs.Calls.{Calls}
 use Rattle.unix_model.specs.Elf.{LoadPlan}
 use Rattle.unix_model.specs.Files.{Description}
 use Rattle.unix_model.specs.Limits.{descriptor_count}
 use Rattle.unix_model.specs.Process.{Process, descriptor}
-use Rattle.unix_model.specs.Rules.{AreOpen, AreSent}
+use Rattle.unix_model.specs.Rules.{AreOpen, AreSent, AreSizes}
 use Rattle.unix_model.specs.State.{phase_word, Unix, has_descriptor}
 use Rattle.unix_model.specs.Tables.{at, nothing, with_at}
 use Rattle.unix_model.proofs.TableLaws.{at-with_at, at-with_at-other}
 use Rattle.unix_laws.proofs.Basics.{true-false, some-differ, some-same}
-use Rattle.unix_laws.proofs.BootSteps.{KeepsEntries, after-boot}
+use Rattle.unix_laws.proofs.BootSteps.{KeepsEntries, after-boot, entries-tell, init-tells}
+use Rattle.unix_laws.proofs.Lines.{tells-of}
 use Rattle.unix_laws.proofs.OpenKeep.{name-has}
 use Rattle.unix_laws.proofs.Tested.{NoSent}
 use Rattle.unix_laws.specs.RuleLaws.{HaveDescriptors, BootRules, BootGivesRules}
 
 -- a machine in which nothing runs yet
-record Empty (pages quantum : ℕ) (unix : Unix) : Type 0 where
-  pages_are : unix.pages ≡ pages
-  quantum_is : unix.quantum ≡ quantum
-  position_is : unix.position ≡ 0
-  no_process : unix.processes ≡ nothing
-  no_description : unix.files.descriptions ≡ nothing
+pub record Empty (pages quantum : ℕ) (unix : Unix) : Type 0 where
+  pub pages_are : unix.pages ≡ pages
+  pub quantum_is : unix.quantum ≡ quantum
+  pub position_is : unix.position ≡ 0
+  pub no_process : unix.processes ≡ nothing
+  pub no_description : unix.files.descriptions ≡ nothing
 
-empty-at-first : (pages quantum : ℕ) → Empty pages quantum (empty_machine pages quantum)
+pub empty-at-first : (pages quantum : ℕ) → Empty pages quantum (empty_machine pages quantum)
 unfolding empty_machine
 empty-at-first pages quantum = record { pages_are = refl; quantum_is = refl; position_is = refl; no_process = refl; no_description = refl }
 
@@ -127,10 +128,9 @@ started-slots unix file plan no_process =
           some-differ word (sym (first-lives file plan) ∙ ap (λ (p : Process). phase_word p.phase) (only-first unix (first_process file plan) process slot no_process is).1 ∙ e);
     }
 
-pub boot_gives_rules : BootGivesRules
-boot_gives_rules calls pages quantum entries unix sizes e =
-    after-boot (Empty pages quantum) (empty-kept pages quantum) (BootRules calls)
-    (λ state file plan empty planned room.
+-- the machine with its first process
+started-ruled : (calls : Calls) (pages quantum : ℕ) → AreSizes pages quantum 0 → (state : Unix) (file : List ℕ) (plan : LoadPlan) → Empty pages quantum state → BootRules calls (started state file plan)
+started-ruled calls pages quantum sizes state file plan empty =
     record {
       sizes = record {
         least = omega (arith, sizes.least, empty.pages_are);
@@ -143,4 +143,21 @@ boot_gives_rules calls pages quantum entries unix sizes e =
       slots = started-slots state file plan empty.no_process;
       sent = started-sent calls state file plan empty.no_process;
       opens = started-open state file plan empty.no_process empty.no_description;
-    }) pages quantum entries unix (empty-at-first pages quantum) e
+    }
+
+pub boot_gives_rules : BootGivesRules
+boot_gives_rules calls pages quantum entries unix sizes e =
+    after-boot (Empty pages quantum) (empty-kept pages quantum) (BootRules calls) (λ state file plan empty planned room. started-ruled calls pages quantum sizes state file plan empty)
+    pages quantum entries unix (empty-at-first pages quantum) e
+
+-- by its steps: an entry that is stored, and the loading of `/init`
+pub stored-empty : (pages quantum number : ℕ) (unix next : Unix) (entries : List BootEntry) → Empty pages quantum unix → with_boot_entries number unix entries ≡ Ok next → Empty pages quantum next
+stored-empty pages quantum number unix next entries empty e =
+    tells-of (Empty pages quantum) (with_boot_entries number unix entries) next
+    (entries-tell (λ entry. Unit {0}) (Empty pages quantum) (λ state path spot node at_number such. empty-kept pages quantum state path spot node at_number) number unix entries (λ k d below. tt) empty) e
+
+pub loaded-ruled : (calls : Calls) (pages quantum : ℕ) → AreSizes pages quantum 0 → (unix next : Unix) → Empty pages quantum unix → with_init unix ≡ Ok next → BootRules calls next
+loaded-ruled calls pages quantum sizes unix next empty e =
+    tells-of (BootRules calls) (with_init unix) next
+    (init-tells (λ entry. Unit {0}) (Empty pages quantum) (λ state path spot node at_number such. empty-kept pages quantum state path spot node at_number) (BootRules calls)
+    (λ state file plan now found planned room. started-ruled calls pages quantum sizes state file plan now) unix empty) e

@@ -63,7 +63,7 @@ module _ (IsSuch : BootEntry → Type 0) (P : Unix → Type 0) (keeps : KeepsSuc
       through (Tells P) (tells-nothing P) (made unix spot (node_inode spot.directory entry.node)) _ (λ number e.
       keeps unix entry.path spot entry.node number such holds short walk new (making-of unix spot (node_inode spot.directory entry.node) number e))))
 
-  entries-tell : (number : ℕ) (unix : Unix) (entries : List BootEntry) → All IsSuch entries → P unix → Tells P (with_boot_entries number unix entries)
+  pub entries-tell : (number : ℕ) (unix : Unix) (entries : List BootEntry) → All IsSuch entries → P unix → Tells P (with_boot_entries number unix entries)
   unfolding with_boot_entries
   entries-tell number unix [] such holds = holds
   entries-tell number unix (entry ∷ entries) such holds =
@@ -73,7 +73,7 @@ module _ (IsSuch : BootEntry → Type 0) (P : Unix → Type 0) (keeps : KeepsSuc
       (tells-of P (or_no_room number (with_boot_entry unix entry)) next
       (no-room-tells P number (with_boot_entry unix entry) (entry-tells unix entry (All-head IsSuch entry entries such) holds (not-true (is_too_long entry.node) short))) e)))
 
-  init-tells : (R : Unix → Type 0) → Starts P R → (unix : Unix) → P unix → Tells R (with_init unix)
+  pub init-tells : (R : Unix → Type 0) → Starts P R → (unix : Unix) → P unix → Tells R (with_init unix)
   unfolding with_init
   init-tells R starts unix holds =
       through (Tells R) (tells-nothing R) (or_no_program (file_at unix.files init_path)) _ (λ file found.

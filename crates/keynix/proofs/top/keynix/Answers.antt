@@ -1,7 +1,7 @@
 use Rattle.std.specs.Prelude.{map, string_bytes}
 use Rattle.kn_io.specs.Faults.{Rose}
 use Rattle.keynix.specs.Words.{command_of}
-use Rattle.keynix.proofs.Told.{status-told, halted-told, written-told, spent-told, idle-told, refused-told, usage-told, usage-exactly, usage-untouched, plan-first, read-told, write-told, note-part-told, note-whole-told, no_memory-told, part-told, refused-output-told, refused_source-output-told, output-told, file-part-told, complete-told, refuses-told, refuses_plan-told, assembles-told, refuses_source-told}
+use Rattle.keynix.proofs.Told.{status-told, halted-told, written-told, spent-told, idle-told, refused-told, usage-told, usage-exactly, usage-output, input-kept, load-told, refused_source-told, plan-first, read-told, write-told, note-part-told, note-whole-told, no_memory-told, part-told, refused-output-told, refused_source-output-told, output-told, file-part-told, complete-told, refuses-told, refuses_plan-told, assembles-told, refuses_source-told}
 use Rattle.keynix.proofs.top.keynix.Goals as goal
 
 pub returns-clause-status : goal.returns-clause-status
@@ -22,6 +22,12 @@ returns-clause-written g c =
     c.args.input.now c.perform.new.input c.args.plan.now c.perform.new.plan c.args.output.now c.perform.new.output c.args.notes.now c.perform.new.notes (Rose (g.E.Sink.faults c.args.notes.now) (g.E.Sink.faults c.perform.new.notes))
     (command_of (map string_bytes c.args.words.now)) c.perform.result.0 c.perform.ensures.answers
 
+pub returns-clause-loaded : goal.returns-clause-loaded
+returns-clause-loaded g c =
+    load-told g.S.Source.left g.P.Source.left g.K.Sink.grew g.E.Sink.grew (Rose (g.S.Source.faults c.args.input.now) (g.S.Source.faults c.perform.new.input)) (Rose (g.P.Source.faults c.args.plan.now) (g.P.Source.faults c.perform.new.plan)) (Rose (g.K.Sink.faults c.args.output.now) (g.K.Sink.faults c.perform.new.output))
+    c.args.input.now c.perform.new.input c.args.plan.now c.perform.new.plan c.args.output.now c.perform.new.output c.args.notes.now c.perform.new.notes (Rose (g.E.Sink.faults c.args.notes.now) (g.E.Sink.faults c.perform.new.notes))
+    (command_of (map string_bytes c.args.words.now)) c.perform.result.0 c.perform.ensures.answers c.one_outcome_law.ensures g.met.K.Sink.part_whole
+
 pub returns-clause-spent : goal.returns-clause-spent
 returns-clause-spent g c =
     spent-told g.S.Source.left g.P.Source.left g.K.Sink.grew g.E.Sink.grew (Rose (g.S.Source.faults c.args.input.now) (g.S.Source.faults c.perform.new.input)) (Rose (g.P.Source.faults c.args.plan.now) (g.P.Source.faults c.perform.new.plan)) (Rose (g.K.Sink.faults c.args.output.now) (g.K.Sink.faults c.perform.new.output))
@@ -40,6 +46,12 @@ returns-clause-refused g c =
     c.args.input.now c.perform.new.input c.args.plan.now c.perform.new.plan c.args.output.now c.perform.new.output c.args.notes.now c.perform.new.notes (Rose (g.E.Sink.faults c.args.notes.now) (g.E.Sink.faults c.perform.new.notes))
     (command_of (map string_bytes c.args.words.now)) c.perform.result.0 c.perform.ensures.answers
 
+pub returns-clause-refused_source : goal.returns-clause-refused_source
+returns-clause-refused_source g c =
+    refused_source-told g.S.Source.left g.P.Source.left g.K.Sink.grew g.E.Sink.grew (Rose (g.S.Source.faults c.args.input.now) (g.S.Source.faults c.perform.new.input)) (Rose (g.P.Source.faults c.args.plan.now) (g.P.Source.faults c.perform.new.plan)) (Rose (g.K.Sink.faults c.args.output.now) (g.K.Sink.faults c.perform.new.output))
+    c.args.input.now c.perform.new.input c.args.plan.now c.perform.new.plan c.args.output.now c.perform.new.output c.args.notes.now c.perform.new.notes (Rose (g.E.Sink.faults c.args.notes.now) (g.E.Sink.faults c.perform.new.notes))
+    (command_of (map string_bytes c.args.words.now)) c.perform.result.0 c.perform.ensures.answers
+
 pub returns-clause-usage : goal.returns-clause-usage
 returns-clause-usage g c =
     usage-told g.S.Source.left g.P.Source.left g.K.Sink.grew g.E.Sink.grew (Rose (g.S.Source.faults c.args.input.now) (g.S.Source.faults c.perform.new.input)) (Rose (g.P.Source.faults c.args.plan.now) (g.P.Source.faults c.perform.new.plan)) (Rose (g.K.Sink.faults c.args.output.now) (g.K.Sink.faults c.perform.new.output))
@@ -52,9 +64,15 @@ returns-clause-usage_exactly g c =
     c.args.input.now c.perform.new.input c.args.plan.now c.perform.new.plan c.args.output.now c.perform.new.output c.args.notes.now c.perform.new.notes (Rose (g.E.Sink.faults c.args.notes.now) (g.E.Sink.faults c.perform.new.notes))
     (command_of (map string_bytes c.args.words.now)) c.perform.result.0 c.perform.ensures.answers
 
-pub returns-clause-usage_untouched : goal.returns-clause-usage_untouched
-returns-clause-usage_untouched g c =
-    usage-untouched g.S.Source.left g.P.Source.left g.K.Sink.grew g.E.Sink.grew (Rose (g.S.Source.faults c.args.input.now) (g.S.Source.faults c.perform.new.input)) (Rose (g.P.Source.faults c.args.plan.now) (g.P.Source.faults c.perform.new.plan)) (Rose (g.K.Sink.faults c.args.output.now) (g.K.Sink.faults c.perform.new.output))
+pub returns-clause-usage_output : goal.returns-clause-usage_output
+returns-clause-usage_output g c =
+    usage-output g.S.Source.left g.P.Source.left g.K.Sink.grew g.E.Sink.grew (Rose (g.S.Source.faults c.args.input.now) (g.S.Source.faults c.perform.new.input)) (Rose (g.P.Source.faults c.args.plan.now) (g.P.Source.faults c.perform.new.plan)) (Rose (g.K.Sink.faults c.args.output.now) (g.K.Sink.faults c.perform.new.output))
+    c.args.input.now c.perform.new.input c.args.plan.now c.perform.new.plan c.args.output.now c.perform.new.output c.args.notes.now c.perform.new.notes (Rose (g.E.Sink.faults c.args.notes.now) (g.E.Sink.faults c.perform.new.notes))
+    (command_of (map string_bytes c.args.words.now)) c.perform.result.0 c.perform.ensures.answers
+
+pub returns-clause-input_kept : goal.returns-clause-input_kept
+returns-clause-input_kept g c =
+    input-kept g.S.Source.left g.P.Source.left g.K.Sink.grew g.E.Sink.grew (Rose (g.S.Source.faults c.args.input.now) (g.S.Source.faults c.perform.new.input)) (Rose (g.P.Source.faults c.args.plan.now) (g.P.Source.faults c.perform.new.plan)) (Rose (g.K.Sink.faults c.args.output.now) (g.K.Sink.faults c.perform.new.output))
     c.args.input.now c.perform.new.input c.args.plan.now c.perform.new.plan c.args.output.now c.perform.new.output c.args.notes.now c.perform.new.notes (Rose (g.E.Sink.faults c.args.notes.now) (g.E.Sink.faults c.perform.new.notes))
     (command_of (map string_bytes c.args.words.now)) c.perform.result.0 c.perform.ensures.answers
 
