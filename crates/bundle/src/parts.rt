@@ -83,6 +83,7 @@ fn add_line(alloc: Global, form: Form, line: &[u8], bytes: &mut Vec<u8>) -> Resu
 fn add_text(line: &[u8], bytes: &mut Vec<u8>) -> Result<bool, AllocError>
     ensures { IfOk result (λ told. Adds Form.Text line.now bytes.old.items told bytes.new.items) }
 {
+    bytes.reserve(line.len() + 1)?;
     bytes.extend_from_slice(line)?;
     bytes.push(b'\n')?;
     Ok(true)
