@@ -1,8 +1,9 @@
 -- Turns of slots where nothing is there to do, and of processes that run.
-use Rattle.std.proofs.Common.{◌≡◌, ℕ, zero, suc, ◌+◌, ◌*◌, ◌%◌, ◌-◌, ◌<◌, ◌≤◌, Bool, true, false, Option, Some, None, List, [], refl, sym, ap, ◌∙◌, arith}
+use Rattle.std.proofs.Common.{◌≡◌, ℕ, zero, suc, ◌+◌, ◌*◌, ◌/◌, ◌%◌, ◌-◌, ◌<◌, ◌≤◌, Bool, true, false, Option, Some, None, List, [], refl, sym, ap, subst, ◌∙◌, arith}
 use Rattle.std.specs.Prelude.{◌==◌, if◌then◌else◌, option_map, is_some}
 use Rattle.std.proofs.lemmas.Bool.Decides.{nat_tests}
-use Rattle.std.proofs.Math.Nat.{add-mod_left, add-mod-mod, mod-eq_of_lt}
+use Rattle.std.proofs.Math.Nat.{add-mod_left, add-mod-mod, div-lt_iff_lt-mul, div-mul-le_self, mod-eq_of_lt, mul-div_cancel}
+use Rattle.std.proofs.lemmas.Nat.{le-div}
 use Rattle.unix_model.specs.declared.calls.Turned.TheVariants.{Worked, Free}
 use Rattle.unix_model.specs.Calls.{call_of}
 use Rattle.unix_model.specs.Process.{Process, Phase, Run, Asked, Sent, Done, Exiting, Zombie}
@@ -121,3 +122,46 @@ sum-over p t m below less over =
     let rest : p + t - m < m = omega (arith, below, less, over) in
     let whole : p + t ≡ m + (p + t - m) = omega (arith, over) in
     sym (ap (λ k. k % m) whole ∙ add-mod_left m (p + t - m) ∙ mod-eq_of_lt rest)
+
+-- ---- the turns go round
+
+-- the slots of turns in a row, from that of a position on
+module _ (position quantum : ℕ) (inside : position < 64 * quantum) where
+  some-turns : 0 < quantum
+  some-turns = nonzero quantum inside
+    where
+      nonzero : (quantum : ℕ) → position < 64 * quantum → 0 < quantum
+      nonzero zero inside = absurd (omega (arith, inside))
+      nonzero (suc quantum) inside = omega arith
+
+  -- the turns before those of a slot are of slots below it
+  pub slots-before : (slot k : ℕ) → position + k < slot * quantum → (position / quantum ≤ (position + k) / quantum) × ((position + k) / quantum < slot)
+  slots-before slot k before = (
+      le-div (position / quantum) (position + k) quantum some-turns (omega (arith, div-mul-le_self position quantum)),
+      (div-lt_iff_lt-mul {k = quantum} {x = position + k} {y = slot} some-turns).1 before,
+    )
+
+  -- the turns of a later slot come later
+  pub slot-behind : (slot : ℕ) → position / quantum < slot → position < slot * quantum
+  slot-behind slot behind = (div-lt_iff_lt-mul {k = quantum} {x = position} {y = slot} some-turns).0 behind
+
+  -- and the first of them stands there
+  pub slot-begins : (slot : ℕ) → position < slot * quantum → (position + (slot * quantum - position)) / quantum ≡ slot
+  slot-begins slot behind =
+      let there : position + (slot * quantum - position) ≡ slot * quantum = omega (arith, behind) in
+      ap (λ place. place / quantum) there ∙ mul-div_cancel slot some-turns
+
+  pub slot-below : (slot : ℕ) → position < slot * quantum → position + (slot * quantum - position) < 64 * quantum → slot < 64
+  slot-below slot behind before =
+      subst (λ slot. slot < 64) (slot-begins slot behind) ((div-lt_iff_lt-mul {k = quantum} {x = position + (slot * quantum - position)} {y = 64} some-turns).1 before)
+
+-- what a slot before the first that has something to do has
+module _ (nothing : ℕ → Bool) (position quantum : ℕ) where
+  pub busy-here : (next slot : ℕ) → slot ≡ position / quantum → next ≡ slot → slot < 64 → (next < 64 → nothing next ≡ false) → nothing (position / quantum) ≡ false
+  busy-here next slot is same below ends = subst (λ slot. nothing slot ≡ false) (same ∙ is) (ends (subst (λ slot. slot < 64) (sym same) below))
+
+  pub free-before : position < 64 * quantum → (last next slot : ℕ) → slot ≡ position / quantum → last ≡ next → ((k : ℕ) → slot ≤ k → k < next → nothing k ≡ true)
+      → (k : ℕ) → k < last * quantum - position → nothing ((position + k) / quantum) ≡ true
+  free-before inside last next slot is same free k few =
+      let place = slots-before position quantum inside last k (omega (arith, few)) in
+      free ((position + k) / quantum) (subst (λ slot. slot ≤ (position + k) / quantum) (sym is) place.0) (subst (λ next. (position + k) / quantum < next) same place.1)

@@ -32,7 +32,7 @@ pub struct Flat {
 ghost use Rattle.std.specs.Prelude.{◌≡◌, ◌+◌, ◌%◌, ◌<◌, ◌≤◌};
 
 impl Flat {
-    ghost use Rattle.std.specs.Prelude.{◌≡◌, ℕ, ◌+◌, ◌*◌, ◌%◌, ◌<◌, ◌≤◌, Bool, true, List, [], Option, Some, None, Err, IfOk, IfErr, OnErr, option_map};
+    ghost use Rattle.std.specs.Prelude.{◌≡◌, ℕ, ◌+◌, ◌*◌, ◌/◌, ◌%◌, ◌<◌, ◌≤◌, Bool, true, false, List, [], Option, Some, None, Err, IfOk, IfErr, OnErr, option_map};
     ghost use Rattle.kn_io.specs.Faults.{Rose};
     ghost use Rattle.kn_io.specs.Sink.{GrewByPrefix};
     ghost use Rattle.unix_model.specs.Calls.{call_of};
@@ -72,15 +72,6 @@ impl Flat {
         (self.state.position / self.state.quantum) as u8
     }
 
-    /// How many turns in a row that slot gets still where the turns go round, from this one on.
-    pub fn round_left(&self) -> u32
-        ensures left { (unix_of self.now).position % (unix_of self.now).quantum + result ≡ (unix_of self.now).quantum }
-        ensures some { 0 < result }
-        ensures inside { (unix_of self.now).position < 64 * (unix_of self.now).quantum }
-    {
-        self.state.quantum - self.state.position % self.state.quantum
-    }
-
     /// The registers of the process in a slot below 64; None exactly where the slot is free.
     pub fn regs(&self, slot: u8) -> Option<Regs>
         requires { slot < 64 }
@@ -109,6 +100,40 @@ impl Flat {
             found = found || works(&self.state, slot);
         }
         !found
+    }
+
+    /// How many turns in a row, from this one on, find nothing to do where the turns go round: those before the next slot
+    /// that has something to do, or before the round's end where none has.
+    pub fn free_left(&self) -> u32
+        ensures inside { (unix_of self.now).position + result ≤ 64 * (unix_of self.now).quantum }
+        ensures free { (k : ℕ) → k < result → has_nothing_to_do (at (unix_of self.now).processes (((unix_of self.now).position + k) / (unix_of self.now).quantum)) ≡ true }
+        ensures some { has_nothing_to_do (at (unix_of self.now).processes ((unix_of self.now).position / (unix_of self.now).quantum)) ≡ true → 0 < result }
+        ensures ends { (unix_of self.now).position + result < 64 * (unix_of self.now).quantum → has_nothing_to_do (at (unix_of self.now).processes (((unix_of self.now).position + result) / (unix_of self.now).quantum)) ≡ false }
+    {
+        let slot = self.round_slot();
+        let next = self.next_busy(slot);
+        if next == slot {
+            0
+        } else {
+            u32::from(next) * self.state.quantum - self.state.position
+        }
+    }
+
+    /// The first slot from this one on that has something to do, or 64 where none has.
+    fn next_busy(&self, slot: u8) -> u8
+        requires { slot < 64 }
+        ensures range { (slot ≤ result) × (result ≤ 64) }
+        ensures free { (k : ℕ) → slot ≤ k → k < result → has_nothing_to_do (at (unix_of self.now).processes k) ≡ true }
+        ensures ends { result < 64 → has_nothing_to_do (at (unix_of self.now).processes result) ≡ false }
+    {
+        let mut next = slot;
+        'slots: while next < 64 {
+            if !self.is_free(next) {
+                return next;
+            }
+            next += 1;
+        }
+        next
     }
 
     /// The position goes on with every turn.

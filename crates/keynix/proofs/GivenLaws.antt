@@ -5,7 +5,8 @@ use Rattle.std.proofs.lemmas.Bool.Decides.{nat_tests}
 use Rattle.std.proofs.lemmas.List.{drop_all}
 use Rattle.plan.specs.declared.span.Span.{Span}
 use Rattle.plan.specs.Plans.{slots_of}
-use Rattle.unix_model.specs.Schedule.{Given, is_spent}
+use Rattle.unix_model.specs.Schedule.{Given, is_spent, next_slot}
+use Rattle.unix_model.specs.State.{Unix}
 
 -- no turn is left
 spent-none : (left next slot : ℕ) (spans : List Span) → left ≡ 0 → next ≡ length spans → is_spent (Given (replicate left slot ++ slots_of (drop next spans))) ≡ true
@@ -23,3 +24,9 @@ given-some (suc left) next slot spans ended given = omega arith
 pub row-spent : (left next slot : ℕ) (spans : List Span) → (left ≡ 0 → next ≡ length spans) → nat_eq left 0 ≡ is_spent (Given (replicate left slot ++ slots_of (drop next spans)))
 row-spent zero next slot spans ended = sym (spent-none zero next slot spans refl (ended refl))
 row-spent (suc left) next slot spans ended = let some : nat_eq (suc left) 0 ≡ false = grind (arith, nat_tests) in some
+
+-- where some are given, the next slot is that of the row
+pub given-slot : (unix : Unix) (left next slot : ℕ) (spans : List Span) → (left ≡ 0 → next ≡ length spans) → is_spent (Given (replicate left slot ++ slots_of (drop next spans))) ≡ false
+    → slot ≡ next_slot unix (Given (replicate left slot ++ slots_of (drop next spans)))
+given-slot unix zero next slot spans ended given = let spent : is_spent (Given (replicate zero slot ++ slots_of (drop next spans))) ≡ true = spent-none zero next slot spans refl (ended refl) in cc
+given-slot unix (suc left) next slot spans ended given = refl

@@ -1,9 +1,7 @@
--- Turns in a row of a slot where nothing is there to do are one step of a run.
+-- Turns in a row that find nothing to do are one step of a run.
 use Rattle.std.proofs.Common.{◌≡◌, ℕ, zero, suc, ◌+◌, ◌*◌, ◌/◌, ◌%◌, ◌<◌, ◌≤◌, Bool, true, false, List, [], ◌∷◌, ◌++◌, Option, None, refl, sym, ap, ap₂, subst, ◌∙◌, arith, append_assoc, drop}
 use Rattle.std.specs.Prelude.{◌==◌, replicate}
 use Rattle.std.proofs.lemmas.Bool.Decides.{nat_tests}
-use Rattle.std.proofs.Math.Nat.{div-add-mod', div-lt_iff_lt-mul, mul-le-mul_right}
-use Rattle.std.proofs.lemmas.Nat.{div-mul-add}
 use Rattle.unix_model.specs.Calls.{call_of}
 use Rattle.unix_model.specs.Machine.{RunResult, Step, run_from, run_on, stop_by}
 use Rattle.unix_model.specs.Schedule.{Schedule, Round, Given, ends_idle, is_spent, mark_at, next_slot, schedule_after, step_of, unix_machine}
@@ -13,7 +11,7 @@ use Rattle.unix_model.specs.Turn.{turned, ticked}
 use Rattle.unix_model.specs.TurnRecord.{Turn, free_turn}
 use Rattle.flat_unix.specs.FreeTurns.{has_nothing_to_do, ticked_times}
 use Rattle.flat_unix.proofs.FreeTurns.{turned-nothing}
-use Rattle.keynix.specs.Rows.{GivesRow, rest_of, schedule_later, turns_then}
+use Rattle.keynix.specs.Rows.{GivesFree, rest_of, schedule_later, turns_then}
 
 -- ---- some turns, and some more
 
@@ -30,50 +28,42 @@ abbrev pub rest_behind : ℕ → Schedule → Turn → RunResult Unix Schedule
 rest_behind rest schedule turn = rest_of (ends_idle turn.state schedule) rest turn.state (schedule_after call_of turn.state schedule) turn.left
 
 -- one turn, and the rest
-pub run-turn : (rest : ℕ) (unix : Unix) (schedule : Schedule) (input : List ℕ) (slot : ℕ) → halted_word unix ≡ None → is_spent schedule ≡ false → next_slot unix schedule ≡ slot
+pub run-turn : (rest : ℕ) (unix : Unix) (schedule : Schedule) (input : List ℕ) → halted_word unix ≡ None → is_spent schedule ≡ false
     → run_from (unix_machine call_of) (suc rest) unix schedule input
-    ≡ turns_then (turned call_of unix slot input).taken (turned call_of unix slot input).put 1 (rest_behind rest schedule (turned call_of unix slot input))
+    ≡ turns_then (turned call_of unix (next_slot unix schedule) input).taken (turned call_of unix (next_slot unix schedule) input).put 1 (rest_behind rest schedule (turned call_of unix (next_slot unix schedule) input))
 unfolding run_from unix_machine
-run-turn rest unix schedule input slot going given is =
+run-turn rest unix schedule input going given =
     let step : Step Unix Schedule = step_of call_of schedule (turned call_of unix (next_slot unix schedule) input) in
     let stop : stop_by (halted_word unix) (is_spent schedule) ≡ None = ap₂ stop_by going given in
     ap (λ found. run_on (unix_machine call_of) unix schedule input step (run_from (unix_machine call_of) rest step.state step.schedule step.left) found) stop
-    ∙ ap (λ slot. turns_then (turned call_of unix slot input).taken (turned call_of unix slot input).put 1 (rest_behind rest schedule (turned call_of unix slot input))) is
 
 -- one turn that finds nothing to do
-free-turn : (rest : ℕ) (unix : Unix) (schedule : Schedule) (input : List ℕ) (slot : ℕ) → halted_word unix ≡ None → is_spent schedule ≡ false → next_slot unix schedule ≡ slot → has_nothing_to_do (at unix.processes slot) ≡ true
+free-turn : (rest : ℕ) (unix : Unix) (schedule : Schedule) (input : List ℕ) → halted_word unix ≡ None → is_spent schedule ≡ false → has_nothing_to_do (at unix.processes (next_slot unix schedule)) ≡ true
     → run_from (unix_machine call_of) (suc rest) unix schedule input ≡ turns_then [] [] 1 (rest_behind rest schedule (free_turn (ticked unix) input))
-free-turn rest unix schedule input slot going given is nothing =
-    run-turn rest unix schedule input slot going given is
-    ∙ ap (λ (turn : Turn). turns_then turn.taken turn.put 1 (rest_behind rest schedule turn)) (turned-nothing unix slot input nothing)
+free-turn rest unix schedule input going given nothing =
+    run-turn rest unix schedule input going given
+    ∙ ap (λ (turn : Turn). turns_then turn.taken turn.put 1 (rest_behind rest schedule turn)) (turned-nothing unix (next_slot unix schedule) input nothing)
 
 -- ---- the turns go round
 
--- where a position stands among the turns of a slot, of which so many are made; they begin at the base
-record Stands (unix : Unix) (slot number base turns : ℕ) : Type 0 where
-  place : unix.position ≡ base + turns
-  fits : turns + number ≤ unix.quantum
-  inside : base + unix.quantum ≤ 64 * unix.quantum
-  is_slot : (k : ℕ) → k < unix.quantum → (base + k) / unix.quantum ≡ slot
+-- the next of some turns finds nothing to do
+free-first : (unix : Unix) (mark : Option Bool) (number : ℕ) → GivesFree unix (Round mark) (suc number) → has_nothing_to_do (at unix.processes (next_slot unix (Round mark))) ≡ true
+free-first unix mark number free =
+    let none : unix.position + 0 ≡ unix.position = omega arith in
+    subst (λ position. has_nothing_to_do (at unix.processes (position / unix.quantum)) ≡ true) none (free.1 0 (omega arith))
 
--- a turn that isn't the last of its slot
-tick-on : (unix : Unix) (slot number base turns : ℕ) → Stands unix slot (suc (suc number)) base turns → ticked unix ≡ record unix { position = unix.position + 1 }
-tick-on unix slot number base turns stands =
-    let later : unix.position + 1 == 64 * unix.quantum ≡ false = grind (arith, nat_tests, stands.place, stands.fits, stands.inside) in
+-- a turn that isn't the last of some
+tick-on : (unix : Unix) (mark : Option Bool) (number : ℕ) → GivesFree unix (Round mark) (suc (suc number)) → ticked unix ≡ record unix { position = unix.position + 1 }
+tick-on unix mark number free =
+    let later : unix.position + 1 == 64 * unix.quantum ≡ false = grind (arith, nat_tests, free.0) in
     rw later refl
 
-stands-on : (unix : Unix) (slot number base turns : ℕ) → Stands unix slot (suc (suc number)) base turns → Stands (record unix { position = unix.position + 1 }) slot (suc number) base (turns + 1)
-stands-on unix slot number base turns stands =
-    record {
-      place = omega (arith, stands.place);
-      fits = omega (arith, stands.fits);
-      inside = stands.inside;
-      is_slot = stands.is_slot;
-    }
-
-stands-slot : (unix : Unix) (mark : Option Bool) (slot number base turns : ℕ) → Stands unix slot (suc number) base turns → next_slot unix (Round mark) ≡ slot
-stands-slot unix mark slot number base turns stands =
-    ap (λ position. position / unix.quantum) stands.place ∙ stands.is_slot turns (omega (arith, stands.fits))
+free-on : (unix : Unix) (mark : Option Bool) (number : ℕ) → GivesFree unix (Round mark) (suc (suc number)) → GivesFree (record unix { position = unix.position + 1 }) (Round mark) (suc number)
+free-on unix mark number free = (
+    omega (arith, free.0),
+    λ k few. let next : unix.position + suc k ≡ unix.position + 1 + k = omega arith in
+      subst (λ position. has_nothing_to_do (at unix.processes (position / unix.quantum)) ≡ true) next (free.1 (suc k) (omega (arith, few))),
+  )
 
 -- no round begins behind such a turn
 round-goes_on : (unix : Unix) (mark : Option Bool) (rest : ℕ) (input : List ℕ)
@@ -86,25 +76,25 @@ round-goes_on unix mark rest input =
 abbrev round_row : (number rest : ℕ) → Unix → Option Bool → List ℕ → RunResult Unix Schedule
 round_row number rest unix mark input = turns_then [] [] number (rest_of (ends_idle unix (Round mark)) rest unix (Round (mark_at call_of unix mark)) input)
 
-run-round : (number rest : ℕ) (unix : Unix) (mark : Option Bool) (slot base turns : ℕ) (input : List ℕ) → halted_word unix ≡ None → Stands unix slot (suc number) base turns → has_nothing_to_do (at unix.processes slot) ≡ true
+run-round : (number rest : ℕ) (unix : Unix) (mark : Option Bool) (input : List ℕ) → halted_word unix ≡ None → GivesFree unix (Round mark) (suc number)
     → run_from (unix_machine call_of) (suc number + rest) unix (Round mark) input ≡ round_row (suc number) rest (ticked_times (suc number) unix) mark input
 unfolding ticked_times
-run-round zero rest unix mark slot base turns input going stands nothing =
+run-round zero rest unix mark input going free =
     let one : suc zero + rest ≡ suc rest = omega arith in
     ap (λ all. run_from (unix_machine call_of) all unix (Round mark) input) one
-    ∙ free-turn rest unix (Round mark) input slot going refl (stands-slot unix mark slot zero base turns stands) nothing
-run-round (suc number) rest unix mark slot base turns input going stands nothing =
+    ∙ free-turn rest unix (Round mark) input going refl (free-first unix mark zero free)
+run-round (suc number) rest unix mark input going free =
     let next : Unix = record unix { position = unix.position + 1 } in
     let more : suc (suc number) + rest ≡ suc (suc number + rest) = omega arith in
     let first : run_from (unix_machine call_of) (suc (suc number + rest)) unix (Round mark) input ≡ turns_then [] [] 1 (rest_behind (suc number + rest) (Round mark) (free_turn (ticked unix) input)) =
-    free-turn (suc number + rest) unix (Round mark) input slot going refl (stands-slot unix mark slot (suc number) base turns stands) nothing in
+    free-turn (suc number + rest) unix (Round mark) input going refl (free-first unix mark (suc number) free) in
     ap (λ all. run_from (unix_machine call_of) all unix (Round mark) input) more
     ∙ first
-    ∙ ap (λ (after : Unix). turns_then [] [] 1 (rest_behind (suc number + rest) (Round mark) (free_turn after input))) (tick-on unix slot number base turns stands)
+    ∙ ap (λ (after : Unix). turns_then [] [] 1 (rest_behind (suc number + rest) (Round mark) (free_turn after input))) (tick-on unix mark number free)
     ∙ ap (turns_then [] [] 1) (round-goes_on unix mark (suc number + rest) input)
-    ∙ ap (turns_then [] [] 1) (run-round number rest next mark slot base (turns + 1) input going (stands-on unix slot number base turns stands) nothing)
+    ∙ ap (turns_then [] [] 1) (run-round number rest next mark input going (free-on unix mark number free))
     ∙ turns_then-joined [] [] 1 [] [] (suc number) (rest_of (ends_idle (ticked_times (suc number) next) (Round mark)) rest (ticked_times (suc number) next) (Round (mark_at call_of (ticked_times (suc number) next) mark)) input)
-    ∙ ap (λ (after : Unix). round_row (1 + suc number) rest (ticked_times (suc number) after) mark input) (sym (tick-on unix slot number base turns stands))
+    ∙ ap (λ (after : Unix). round_row (1 + suc number) rest (ticked_times (suc number) after) mark input) (sym (tick-on unix mark number free))
     ∙ ap (λ all. round_row all rest (ticked_times (suc (suc number)) unix) mark input) numbers
   where
     numbers : 1 + suc number ≡ suc (suc number)
@@ -119,53 +109,28 @@ unfolding ticked_times
 run-given zero rest unix slot slots input going nothing =
     let one : suc zero + rest ≡ suc rest = omega arith in
     ap (λ all. run_from (unix_machine call_of) all unix (Given (slot ∷ slots)) input) one
-    ∙ free-turn rest unix (Given (slot ∷ slots)) input slot going refl refl nothing
+    ∙ free-turn rest unix (Given (slot ∷ slots)) input going refl nothing
 run-given (suc number) rest unix slot slots input going nothing =
     let more : suc (suc number) + rest ≡ suc (suc number + rest) = omega arith in
     let numbers : 1 + suc number ≡ suc (suc number) = omega arith in
     ap (λ all. run_from (unix_machine call_of) all unix (Given (slot ∷ (slot ∷ (replicate number slot ++ slots)))) input) more
-    ∙ free-turn (suc number + rest) unix (Given (slot ∷ (slot ∷ (replicate number slot ++ slots)))) input slot going refl refl nothing
+    ∙ free-turn (suc number + rest) unix (Given (slot ∷ (slot ∷ (replicate number slot ++ slots)))) input going refl nothing
     ∙ ap (turns_then [] [] 1) (run-given number rest (ticked unix) slot slots input going nothing)
     ∙ turns_then-joined [] [] 1 [] [] (suc number) (run_from (unix_machine call_of) rest (ticked_times (suc number) (ticked unix)) (Given slots) input)
     ∙ ap (λ all. turns_then [] [] all (run_from (unix_machine call_of) rest (ticked_times (suc (suc number)) unix) (Given slots) input)) numbers
 
 -- ---- any schedule
 
--- the turns in a row begin at a multiple of the quantum
-round-stands : (unix : Unix) (slot number : ℕ) → slot ≡ unix.position / unix.quantum → unix.position % unix.quantum + suc number ≤ unix.quantum → unix.position < 64 * unix.quantum
-    → Stands unix slot (suc number) (unix.position / unix.quantum * unix.quantum) (unix.position % unix.quantum)
-round-stands unix slot number is fits inside =
-    let some : 0 < unix.quantum = omega (arith, fits) in
-    let below : unix.position / unix.quantum < 64 = (div-lt_iff_lt-mul {k = unix.quantum} {x = unix.position} {y = 64} some).1 inside in
-    record {
-      place = sym (div-add-mod' unix.position unix.quantum);
-      fits = fits;
-      inside = whole (unix.position / unix.quantum) below;
-      is_slot = λ k few. div-mul-add (unix.position / unix.quantum) unix.quantum k few ∙ sym is;
-    }
-  where
-    whole : (n : ℕ) → n < 64 → n * unix.quantum + unix.quantum ≤ 64 * unix.quantum
-    whole n below =
-        let more : suc n * unix.quantum ≡ n * unix.quantum + unix.quantum = omega arith in
-        subst (λ all. all ≤ 64 * unix.quantum) more (mul-le-mul_right {m = suc n} {n = 64} unix.quantum below)
-
-pub run-row : (number rest all : ℕ) (unix : Unix) (schedule : Schedule) (slot : ℕ) (input : List ℕ) → all ≡ suc number + rest → halted_word unix ≡ None → is_spent schedule ≡ false → GivesRow unix schedule slot (suc number)
-    → has_nothing_to_do (at unix.processes slot) ≡ true
+pub run-row : (number rest all : ℕ) (unix : Unix) (schedule : Schedule) (input : List ℕ) → all ≡ suc number + rest → halted_word unix ≡ None → GivesFree unix schedule (suc number)
     → run_from (unix_machine call_of) all unix schedule input
     ≡ turns_then [] [] (suc number) (rest_of (ends_idle (ticked_times (suc number) unix) schedule) rest (ticked_times (suc number) unix) (schedule_later (ticked_times (suc number) unix) (suc number) schedule) input)
-run-row number rest all unix (Round mark) slot input is going given row nothing =
+run-row number rest all unix (Round mark) input is going free =
     ap (λ all. run_from (unix_machine call_of) all unix (Round mark) input) is
-    ∙ run-round number rest unix mark slot (unix.position / unix.quantum * unix.quantum) (unix.position % unix.quantum) input going (round-stands unix slot number row.0 row.1 row.2) nothing
-run-row number rest all unix (Given slots) slot input is going given row nothing =
+    ∙ run-round number rest unix mark input going free
+run-row number rest all unix (Given slots) input is going free =
     ap (λ all. run_from (unix_machine call_of) all unix (Given slots) input) is
-    ∙ ap (λ slots. run_from (unix_machine call_of) (suc number + rest) unix (Given slots) input) row
-    ∙ run-given number rest unix slot (drop (suc number) slots) input going nothing
-
--- the next slot is that of the row
-pub row-slot : (unix : Unix) (schedule : Schedule) (slot number : ℕ) → is_spent schedule ≡ false → GivesRow unix schedule slot (suc number) → next_slot unix schedule ≡ slot
-row-slot unix (Round mark) slot number given row = sym row.0
-row-slot unix (Given []) slot number given row = cc
-row-slot unix (Given (first ∷ slots)) slot number given row = cc
+    ∙ ap (λ slots. run_from (unix_machine call_of) (suc number + rest) unix (Given slots) input) free.1
+    ∙ run-given number rest unix free.0 (drop (suc number) slots) input going free.2
 
 -- the schedule after a row of one turn
 pub later-one : (unix : Unix) (schedule : Schedule) → is_spent schedule ≡ false → schedule_after call_of unix schedule ≡ schedule_later unix 1 schedule

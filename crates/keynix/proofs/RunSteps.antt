@@ -3,16 +3,16 @@ use Rattle.std.proofs.Common.{◌≡◌, ℕ, zero, suc, ◌+◌, ◌-◌, ◌<�
 use Rattle.kn_io.specs.Sink.{GrewByPrefix}
 use Rattle.unix_model.specs.Calls.{call_of}
 use Rattle.unix_model.specs.Machine.{RunResult, Stop, Going, ended, run, run_from, stop_by, stop_or_going}
-use Rattle.unix_model.specs.Schedule.{Schedule, ends_idle, is_spent, schedule_after, schedule_begun, unix_machine, unix_run}
+use Rattle.unix_model.specs.Schedule.{Schedule, ends_idle, is_spent, next_slot, schedule_after, schedule_begun, unix_machine, unix_run}
 use Rattle.unix_model.specs.State.{Unix, halted_word}
 use Rattle.unix_model.specs.Turn.{turned}
 use Rattle.unix_model.specs.TurnRecord.{Turn}
 use Rattle.unix_laws.proofs.EveryTurn.{input_splits}
 use Rattle.flat_file_calls.specs.Console.{TakesFront}
 use Rattle.flat_unix.specs.FreeTurns.{ticked_times}
-use Rattle.keynix.specs.Rows.{GivesRow, GoesOn, MakesRow, rest_of, schedule_later, turns_then}
+use Rattle.keynix.specs.Rows.{GoesOn, MakesRow, rest_of, schedule_later, turns_then}
 use Rattle.keynix.specs.Runs.{RunsAs}
-use Rattle.keynix.proofs.RowLaws.{later-one, rest_behind, row-slot, run-row, run-turn, turns_then-joined}
+use Rattle.keynix.proofs.RowLaws.{later-one, rest_behind, run-row, run-turn, turns_then-joined}
 
 -- ---- where a run ends
 
@@ -31,13 +31,13 @@ module _ {S K : Type 0} (left : S → Option (List ℕ)) (grew : K → List ℕ 
   -- ---- one step
 
   -- turns in a row are a step of a run
-  pub row-goes_on : (nothing : (s : K) → grew s [] s) (most made slot : ℕ) (unix next : Unix) (schedule later : Schedule) (input : List ℕ) (idle : Bool) (source : S) (old new : K)
-      → 0 < made → made ≤ most → halted_word unix ≡ None → is_spent schedule ≡ false → GivesRow unix schedule slot made → MakesRow slot made unix input left grew next source old new
+  pub row-goes_on : (nothing : (s : K) → grew s [] s) (most made : ℕ) (unix next : Unix) (schedule later : Schedule) (input : List ℕ) (idle : Bool) (source : S) (old new : K)
+      → 0 < made → made ≤ most → halted_word unix ≡ None → is_spent schedule ≡ false → MakesRow schedule made unix input left grew next source old new
       → idle ≡ ends_idle next schedule → later ≡ schedule_later next made schedule
       → GoesOn (run_from (unix_machine call_of) most unix schedule input) (most - made) input left grew next later made idle source old new
-  row-goes_on nothing most zero slot unix next schedule later input idle source old new some few going given row makes idles passes = absurd (omega (arith, some))
-  row-goes_on nothing most (suc made) slot unix next schedule later input idle source old new some few going given row (inl one) idles passes =
-      let turn : Turn = turned call_of unix slot input in
+  row-goes_on nothing most zero unix next schedule later input idle source old new some few going given makes idles passes = absurd (omega (arith, some))
+  row-goes_on nothing most (suc made) unix next schedule later input idle source old new some few going given (inl one) idles passes =
+      let turn : Turn = turned call_of unix (next_slot unix schedule) input in
       let rest : ℕ = most - suc made in
       let all : most ≡ suc rest = omega (arith, few, one.0) in
       let state_is : next ≡ turn.state = one.2.state_is in
@@ -50,13 +50,13 @@ module _ {S K : Type 0} (left : S → Option (List ℕ)) (grew : K → List ℕ 
         now = turn.left;
         run_is =
             ap (λ all. run_from (unix_machine call_of) all unix schedule input) all
-            ∙ run-turn rest unix schedule input slot going given (row-slot unix schedule slot made given row)
+            ∙ run-turn rest unix schedule input going given
             ∙ ap₂ (λ number rest. turns_then turn.taken turn.put number rest) (sym one.0) same;
-        input_is = sym (input_splits call_of unix slot input);
+        input_is = sym (input_splits call_of unix (next_slot unix schedule) input);
         input_left = one.2.source_left;
         output_grew = one.2.sink_grew;
       }
-  row-goes_on nothing most (suc made) slot unix next schedule later input idle source old new some few going given row (inr free) idles passes =
+  row-goes_on nothing most (suc made) unix next schedule later input idle source old new some few going given (inr free) idles passes =
       let rest : ℕ = most - suc made in
       let all : most ≡ suc made + rest = omega (arith, few) in
       let same : rest_of (ends_idle (ticked_times (suc made) unix) schedule) rest (ticked_times (suc made) unix) (schedule_later (ticked_times (suc made) unix) (suc made) schedule) input ≡ rest_of idle rest next later input =
@@ -66,22 +66,21 @@ module _ {S K : Type 0} (left : S → Option (List ℕ)) (grew : K → List ℕ 
         taken = [];
         put = [];
         now = input;
-        run_is = run-row made rest most unix schedule slot input all going given row free.0 ∙ ap (turns_then [] [] (suc made)) same;
+        run_is = run-row made rest most unix schedule input all going free.0 ∙ ap (turns_then [] [] (suc made)) same;
         input_is = refl;
         input_left = free.2;
         output_grew = subst (λ new. grew old [] new) (sym free.3) (nothing old);
       }
 
   -- a turn that failed has lost a front of what the run takes
-  pub turn-lost : (most made slot : ℕ) (unix : Unix) (schedule : Schedule) (input : List ℕ) (now : Option (List ℕ)) → 0 < most → 0 < made → halted_word unix ≡ None → is_spent schedule ≡ false → GivesRow unix schedule slot made
-      → TakesFront input (turned call_of unix slot input).taken now → TakesFront input (run_from (unix_machine call_of) most unix schedule input).taken now
-  turn-lost zero made slot unix schedule input now some turns going given row front = absurd (omega (arith, some))
-  turn-lost (suc rest) zero slot unix schedule input now some turns going given row front = absurd (omega (arith, turns))
-  turn-lost (suc rest) (suc made) slot unix schedule input now some turns going given row front =
-      let turn : Turn = turned call_of unix slot input in
+  pub turn-lost : (most : ℕ) (unix : Unix) (schedule : Schedule) (input : List ℕ) (now : Option (List ℕ)) → 0 < most → halted_word unix ≡ None → is_spent schedule ≡ false
+      → TakesFront input (turned call_of unix (next_slot unix schedule) input).taken now → TakesFront input (run_from (unix_machine call_of) most unix schedule input).taken now
+  turn-lost zero unix schedule input now some going given front = absurd (omega (arith, some))
+  turn-lost (suc rest) unix schedule input now some going given front =
+      let turn : Turn = turned call_of unix (next_slot unix schedule) input in
       let after : RunResult Unix Schedule = rest_behind rest schedule turn in
       let whole : (run_from (unix_machine call_of) (suc rest) unix schedule input).taken ≡ turn.taken ++ after.taken =
-      ap (λ (run : RunResult Unix Schedule). run.taken) (run-turn rest unix schedule input slot going given (row-slot unix schedule slot made given row)) in
+      ap (λ (run : RunResult Unix Schedule). run.taken) (run-turn rest unix schedule input going given) in
       record {
         front = front.front;
         behind = front.behind ++ after.taken;
@@ -92,16 +91,15 @@ module _ {S K : Type 0} (left : S → Option (List ℕ)) (grew : K → List ℕ 
       }
 
   -- and the output got a front of what the run puts
-  pub turn-part : (longer : (a b : K) (x y : List ℕ) → GrewByPrefix grew a x b → GrewByPrefix grew a (x ++ y) b) (most made slot : ℕ) (unix : Unix) (schedule : Schedule) (input : List ℕ) (old new : K)
-      → 0 < most → 0 < made → halted_word unix ≡ None → is_spent schedule ≡ false → GivesRow unix schedule slot made
-      → GrewByPrefix grew old (turned call_of unix slot input).put new → GrewByPrefix grew old (run_from (unix_machine call_of) most unix schedule input).put new
-  turn-part longer zero made slot unix schedule input old new some turns going given row part = absurd (omega (arith, some))
-  turn-part longer (suc rest) zero slot unix schedule input old new some turns going given row part = absurd (omega (arith, turns))
-  turn-part longer (suc rest) (suc made) slot unix schedule input old new some turns going given row part =
-      let turn : Turn = turned call_of unix slot input in
+  pub turn-part : (longer : (a b : K) (x y : List ℕ) → GrewByPrefix grew a x b → GrewByPrefix grew a (x ++ y) b) (most : ℕ) (unix : Unix) (schedule : Schedule) (input : List ℕ) (old new : K)
+      → 0 < most → halted_word unix ≡ None → is_spent schedule ≡ false
+      → GrewByPrefix grew old (turned call_of unix (next_slot unix schedule) input).put new → GrewByPrefix grew old (run_from (unix_machine call_of) most unix schedule input).put new
+  turn-part longer zero unix schedule input old new some going given part = absurd (omega (arith, some))
+  turn-part longer (suc rest) unix schedule input old new some going given part =
+      let turn : Turn = turned call_of unix (next_slot unix schedule) input in
       let after : RunResult Unix Schedule = rest_behind rest schedule turn in
       let whole : (run_from (unix_machine call_of) (suc rest) unix schedule input).put ≡ turn.put ++ after.put =
-      ap (λ (run : RunResult Unix Schedule). run.put) (run-turn rest unix schedule input slot going given (row-slot unix schedule slot made given row)) in
+      ap (λ (run : RunResult Unix Schedule). run.put) (run-turn rest unix schedule input going given) in
       subst (λ bytes. GrewByPrefix grew old bytes new) (sym whole) (longer old new turn.put after.put part)
 
   -- ---- step by step

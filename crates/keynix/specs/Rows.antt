@@ -1,31 +1,33 @@
--- Turns in a row of one slot, as steps of a run.
-use Rattle.std.specs.Prelude.{◌≡◌, ◌≤◌, ◌<◌, ◌⊎◌, ℕ, ◌+◌, ◌*◌, ◌/◌, ◌%◌, Bool, true, List, ◌++◌, drop, Option, Some, if◌then◌else◌}
+-- Turns in a row, as steps of a run.
+use Rattle.std.specs.Prelude.{◌≡◌, ◌≤◌, ◌<◌, ◌⊎◌, ℕ, ◌+◌, ◌*◌, ◌/◌, Bool, true, List, ◌++◌, drop, Option, Some, if◌then◌else◌}
 use Rattle.unix_model.specs.declared.calls.Turned.{Turned}
 use Rattle.unix_model.specs.Calls.{call_of}
 use Rattle.unix_model.specs.Machine.{RunResult, ended, idle_stop, run_from}
-use Rattle.unix_model.specs.Schedule.{Schedule, Round, Given, mark_at, unix_machine}
+use Rattle.unix_model.specs.Schedule.{Schedule, Round, Given, mark_at, next_slot, unix_machine}
 use Rattle.unix_model.specs.State.{Unix, halted_word}
 use Rattle.unix_model.specs.Tables.{at}
 use Rattle.unix_model.specs.Turn.{turned, MakesTurn}
 use Rattle.flat_unix.specs.FreeTurns.{has_nothing_to_do, ticked_times}
 use Rattle.keynix.specs.Schedules.{IsGiven}
 
--- the next turns, so many, are of this slot, and no round ends before the last of them
-abbrev pub GivesRow : Unix → Schedule → (slot number : ℕ) → Type 0
-GivesRow unix (Round mark) slot number = (slot ≡ unix.position / unix.quantum) × (unix.position % unix.quantum + number ≤ unix.quantum) × (unix.position < 64 * unix.quantum)
-GivesRow unix (Given slots) slot number = IsGiven slots slot number
+-- The next turns, so many, find nothing to do, and no round ends before the last of them. Where the turns go round they may be
+-- of several slots.
+abbrev pub GivesFree : Unix → Schedule → (number : ℕ) → Type 0
+GivesFree unix (Round mark) number =
+    (unix.position + number ≤ 64 * unix.quantum) × ((k : ℕ) → k < number → has_nothing_to_do (at unix.processes ((unix.position + k) / unix.quantum)) ≡ true)
+GivesFree unix (Given slots) number = (slot : ℕ) × IsGiven slots slot number × (has_nothing_to_do (at unix.processes slot) ≡ true)
 
 -- the schedule after so many turns in a row that lead to a state
 abbrev pub schedule_later : Unix → ℕ → Schedule → Schedule
 schedule_later after number (Round mark) = Round (mark_at call_of after mark)
 schedule_later after number (Given slots) = Given (drop number slots)
 
--- One turn of a slot, or so many that find nothing to do there: these change the position alone, and neither take nor put
+-- The next turn was made, or so many that find nothing to do: these change the position alone, and neither take nor put
 -- anything.
-abbrev pub MakesRow : {S K : Type 0} (slot made : ℕ) → Unix → (input : List ℕ) → (S → Option (List ℕ)) → (K → List ℕ → K → Type 0) → (after : Unix) → S → K → K → Type 0
-MakesRow slot made unix input left grew after source old new =
-    ((made ≡ 1) × (answer : Turned) × MakesTurn (turned call_of unix slot input) left grew after answer source old new)
-    ⊎ ((has_nothing_to_do (at unix.processes slot) ≡ true) × (after ≡ ticked_times made unix) × (left source ≡ Some input) × (new ≡ old))
+abbrev pub MakesRow : {S K : Type 0} → Schedule → (made : ℕ) → Unix → (input : List ℕ) → (S → Option (List ℕ)) → (K → List ℕ → K → Type 0) → (after : Unix) → S → K → K → Type 0
+MakesRow schedule made unix input left grew after source old new =
+    ((made ≡ 1) × (answer : Turned) × MakesTurn (turned call_of unix (next_slot unix schedule) input) left grew after answer source old new)
+    ⊎ (GivesFree unix schedule made × (after ≡ ticked_times made unix) × (left source ≡ Some input) × (new ≡ old))
 
 -- some turns, and then the rest of a run
 abbrev pub turns_then : (taken put : List ℕ) (turns : ℕ) → RunResult Unix Schedule → RunResult Unix Schedule

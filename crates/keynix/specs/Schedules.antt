@@ -20,7 +20,10 @@ slots_from (Some span) spans = replicate span.turns span.slot ++ slots_of spans
 abbrev pub IsGiven : List ℕ → (slot number : ℕ) → Type 0
 IsGiven slots slot number = slots ≡ replicate number slot ++ drop number slots
 
--- how many turns in a row the next slot gets at least
+-- the slot that gets the next turns, and how many in a row at least
+abbrev pub row_slot : Given → ℕ
+row_slot given = given.slot
+
 abbrev pub row_left : Given → ℕ
 row_left given = given.left
 

@@ -24,7 +24,8 @@ impl Given {
     ghost use Rattle.std.specs.Prelude.{ℕ, ◌+◌, drop, None, IfSome, false};
     ghost use Rattle.plan.specs.Plans.{slots_of};
     ghost use Rattle.unix_model.specs.Schedule as model;
-    ghost use Rattle.keynix.specs.Schedules.{IsGiven, row_left, slots_from, slots_left};
+    ghost use Rattle.unix_model.specs.State.{Unix};
+    ghost use Rattle.keynix.specs.Schedules.{IsGiven, row_left, row_slot, slots_from, slots_left};
 
     /// The turns of these spans.
     pub fn new(spans: Vec<Span>) -> Given
@@ -57,7 +58,8 @@ impl Given {
     /// The slot that gets the next turn.
     pub fn slot(&self) -> u8
         ensures below { result < 64 }
-        ensures row { (number : ℕ) → number ≤ row_left self.now → IsGiven (slots_left self.now) result number }
+        ensures next { (unix : Unix) → model.is_spent (model.Given (slots_left self.now)) ≡ false → result ≡ model.next_slot unix (model.Given (slots_left self.now)) }
+        ensures some { model.is_spent (model.Given (slots_left self.now)) ≡ false → 0 < row_left self.now }
     {
         self.slot
     }
@@ -66,6 +68,8 @@ impl Given {
     pub fn row(&self) -> u32
         ensures left { result ≡ row_left self.now }
         ensures some { model.is_spent (model.Given (slots_left self.now)) ≡ false → 0 < result }
+        ensures row { (number : ℕ) → number ≤ result → IsGiven (slots_left self.now) (row_slot self.now) number }
+        ensures next { (unix : Unix) → model.is_spent (model.Given (slots_left self.now)) ≡ false → model.next_slot unix (model.Given (slots_left self.now)) ≡ row_slot self.now }
     {
         self.left
     }

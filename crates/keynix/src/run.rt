@@ -5,7 +5,7 @@ ghost use Rattle.kn_io.specs.Faults.{Rose};
 ghost use Rattle.kn_io.specs.Sink.{GrewByPrefix};
 ghost use Rattle.unix_model.specs.Calls.{call_of};
 ghost use Rattle.unix_model.specs.Machine.{idle_stop, run_from, stop_by};
-ghost use Rattle.unix_model.specs.Schedule.{is_spent, unix_machine, unix_run};
+ghost use Rattle.unix_model.specs.Schedule.{is_spent, next_slot, unix_machine, unix_run};
 ghost use Rattle.unix_model.specs.State.{halted_word};
 ghost use Rattle.unix_model.specs.Turn.{turned};
 ghost use Rattle.flat_file_calls.specs.Console.{TakesFront};
@@ -14,9 +14,9 @@ ghost use Rattle.flat_unix.specs.Turns.{IsTurnFault};
 ghost use Rattle.keynix.specs.Counts.{TurnsStay};
 ghost use Rattle.keynix.specs.Rows.{GoesOn, MakesRow};
 ghost use Rattle.keynix.specs.Runs.{RunsAs, stop_of};
-ghost use Rattle.keynix.specs.Schedules.{schedule_of};
+ghost use Rattle.keynix.specs.Schedules.{IsInRow, schedule_of};
 
-use crate::schedule::{Row, Schedule};
+use crate::schedule::Schedule;
 use flat_unix::{Flat, FlatFault};
 use kn_io::{Sink, Source};
 use std::alloc::Global;
@@ -123,7 +123,7 @@ fn idle_stop(flat: &Flat) -> Stop
     }
 }
 
-/// Makes the next turn of a run, or as many as its slot gets where these find nothing to do.
+/// Makes the next turn of a run, or as many in a row as find nothing to do.
 fn go_on<S: Source, K: Sink>(
     alloc: Global,
     flat: &mut Flat,
@@ -144,9 +144,7 @@ fn go_on<S: Source, K: Sink>(
     ensures input_counted { S.faults input.old ≤ S.faults input.new }
     ensures output_counted { K.faults output.old ≤ K.faults output.new }
 {
-    let row = schedule.row(flat);
-    let turns = at_most(row.turns, most);
-    let made = match make_row(alloc, flat, row.slot, turns, input, output) {
+    let made = match make_row(alloc, flat, schedule, most, input, output) {
         Ok(made) => made,
         Err(fault) => return Err(fault),
     };
@@ -167,29 +165,33 @@ fn at_most(turns: u32, most: u64) -> u32
     }
 }
 
-/// Makes turns in a row of one slot: one, or so many at once where they find nothing to do.
+/// Makes the next turn, or as many in a row at once as find nothing to do: these change the position alone, whichever slots
+/// they are of.
 fn make_row<S: Source, K: Sink>(
     alloc: Global,
     flat: &mut Flat,
-    slot: u8,
-    most: u32,
+    schedule: &Schedule,
+    most: u64,
     input: &mut S,
     output: &mut K,
 ) -> Result<u32, FlatFault>
-    requires below { slot < 64 }
     requires some { 0 < most }
-    ensures made { IfOk result (λ made. (bytes : List ℕ) → S.left input.old ≡ Some bytes → MakesRow slot made (unix_of flat.old) bytes S.left K.grew (unix_of flat.new) input.new output.old output.new) }
+    requires given { is_spent (schedule_of schedule.now) ≡ false }
+    ensures made { IfOk result (λ made. (bytes : List ℕ) → S.left input.old ≡ Some bytes → MakesRow (schedule_of schedule.now) made (unix_of flat.old) bytes S.left K.grew (unix_of flat.new) input.new output.old output.new) }
     ensures few { IfOk result (λ made. (0 < made) × (made ≤ most)) }
-    ensures lost { OnErr result ((bytes : List ℕ) → S.left input.old ≡ Some bytes → TakesFront bytes (turned call_of (unix_of flat.old) slot bytes).taken (S.left input.new)) }
-    ensures part { OnErr result ((bytes : List ℕ) → S.left input.old ≡ Some bytes → GrewByPrefix K.grew output.old (turned call_of (unix_of flat.old) slot bytes).put output.new) }
+    ensures in_row { IfOk result (IsInRow schedule.now) }
+    ensures lost { OnErr result ((bytes : List ℕ) → S.left input.old ≡ Some bytes → TakesFront bytes (turned call_of (unix_of flat.old) (next_slot (unix_of flat.old) (schedule_of schedule.now)) bytes).taken (S.left input.new)) }
+    ensures part { OnErr result ((bytes : List ℕ) → S.left input.old ≡ Some bytes → GrewByPrefix K.grew output.old (turned call_of (unix_of flat.old) (next_slot (unix_of flat.old) (schedule_of schedule.now)) bytes).put output.new) }
     ensures same { TurnsStay (S.faults input.new ≡ S.faults input.old) (K.faults output.new ≡ K.faults output.old) result }
     ensures cause { IfErr result (IsTurnFault (Rose (S.faults input.old) (S.faults input.new)) (Rose (K.faults output.old) (K.faults output.new))) }
     ensures input_counted { S.faults input.old ≤ S.faults input.new }
     ensures output_counted { K.faults output.old ≤ K.faults output.new }
 {
+    let slot = schedule.slot(flat);
     if flat.is_free(slot) {
-        flat.free_turns(slot, most);
-        return Ok(most);
+        let turns = at_most(schedule.free_row(flat), most);
+        flat.free_turns(slot, turns);
+        return Ok(turns);
     }
     match flat.turn(alloc, slot, input, output) {
         Ok(_) => Ok(1),

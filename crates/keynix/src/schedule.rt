@@ -1,10 +1,12 @@
 //! The schedule of a run.
 
-ghost use Rattle.std.specs.Prelude.{◌≡◌, ℕ, ◌<◌, ◌≤◌, false};
+ghost use Rattle.std.specs.Prelude.{◌≡◌, ℕ, ◌<◌, ◌≤◌, true, false};
 ghost use Rattle.flat_unix.specs.FlatView.{unix_of};
+ghost use Rattle.flat_unix.specs.FreeTurns.{has_nothing_to_do};
 ghost use Rattle.unix_model.specs.Calls.{call_of};
 ghost use Rattle.unix_model.specs.Schedule as model;
-ghost use Rattle.keynix.specs.Rows.{GivesRow, schedule_later};
+ghost use Rattle.unix_model.specs.Tables.{at};
+ghost use Rattle.keynix.specs.Rows.{GivesFree, schedule_later};
 ghost use Rattle.keynix.specs.Schedules.{IsInRow, schedule_of};
 
 use crate::given::Given;
@@ -18,13 +20,6 @@ pub enum Schedule {
     Round(Option<bool>),
     /// The turns that are given.
     Given(Given),
-}
-
-/// Turns in a row of one slot.
-#[derive(Clone, Copy, Debug, PartialEq, Eq)]
-pub struct Row {
-    pub slot: u8,
-    pub turns: u32,
 }
 
 impl Schedule {
@@ -52,22 +47,30 @@ impl Schedule {
         }
     }
 
-    /// The turns in a row that come next, at least one where any is given.
-    pub fn row(&self, flat: &Flat) -> Row
-        ensures below { result.slot < 64 }
-        ensures some { model.is_spent (schedule_of self.now) ≡ false → 0 < result.turns }
-        ensures row { (number : ℕ) → number ≤ result.turns → GivesRow (unix_of flat.now) (schedule_of self.now) result.slot number }
-        ensures in_row { (number : ℕ) → number ≤ result.turns → IsInRow self.now number }
+    /// The slot that gets the next turn, where any is given.
+    pub fn slot(&self, flat: &Flat) -> u8
+        ensures below { result < 64 }
+        ensures next { model.is_spent (schedule_of self.now) ≡ false → result ≡ model.next_slot (unix_of flat.now) (schedule_of self.now) }
+        ensures in_row { model.is_spent (schedule_of self.now) ≡ false → IsInRow self.now 1 }
     {
         match self {
-            Schedule::Round(_) => Row {
-                slot: flat.round_slot(),
-                turns: flat.round_left(),
-            },
-            Schedule::Given(given) => Row {
-                slot: given.slot(),
-                turns: given.row(),
-            },
+            Schedule::Round(_) => flat.round_slot(),
+            Schedule::Given(given) => given.slot(),
+        }
+    }
+
+    /// How many turns in a row find nothing to do, where the next one doesn't. Where the turns go round, they are of all the
+    /// slots up to one that has something to do.
+    pub fn free_row(&self, flat: &Flat) -> u32
+        requires given { model.is_spent (schedule_of self.now) ≡ false }
+        requires free { has_nothing_to_do (at (unix_of flat.now).processes (model.next_slot (unix_of flat.now) (schedule_of self.now))) ≡ true }
+        ensures some { 0 < result }
+        ensures row { (number : ℕ) → number ≤ result → GivesFree (unix_of flat.now) (schedule_of self.now) number }
+        ensures in_row { (number : ℕ) → number ≤ result → IsInRow self.now number }
+    {
+        match self {
+            Schedule::Round(_) => flat.free_left(),
+            Schedule::Given(given) => given.row(),
         }
     }
 
