@@ -36,7 +36,8 @@ or-true : (b : Bool) → (b || true) ≡ true
 or-true true = refl
 or-true false = refl
 
-any-here : (test : ℕ → Bool) (n limit : ℕ) → n < limit → test n ≡ true → any_below test limit ≡ true
+-- a test that holds somewhere holds of any
+pub any-here : (test : ℕ → Bool) (n limit : ℕ) → n < limit → test n ≡ true → any_below test limit ≡ true
 unfolding any_below
 any-here test n zero inside here = absurd (omega arith)
 any-here test n (suc limit) inside here = elim (eqb_tells limit n) as (λ _. (any_below test limit || test limit) ≡ true) [

@@ -1,5 +1,6 @@
 //! The machine.
 
+use crate::slot_turns::SlotTurns;
 use crate::turning::step;
 use crate::waiting::works;
 use flat_boot::file_at;
@@ -27,6 +28,8 @@ pub enum FlatFault {
 #[derive(Drop)]
 pub struct Flat {
     pub(crate) state: State,
+    /// The turns of the slot whose turn it was last, where the turns went round.
+    pub(crate) current: SlotTurns,
 }
 
 ghost use Rattle.std.specs.Prelude.{◌≡◌, ◌+◌, ◌%◌, ◌<◌, ◌≤◌};
@@ -69,6 +72,9 @@ impl Flat {
         ensures slot { (mark : Option Bool) → result ≡ next_slot (unix_of self.now) (Round mark) }
         ensures below { result < 64 }
     {
+        if self.current.has(self.state.position, self.state.quantum) {
+            return self.current.slot();
+        }
         (self.state.position / self.state.quantum) as u8
     }
 
@@ -95,11 +101,12 @@ impl Flat {
     pub fn is_idle(&self) -> bool
         ensures { result ≡ is_idle call_of (unix_of self.now) }
     {
-        let mut found = false;
         for slot in 0..64u8 {
-            found = found || works(&self.state, slot);
+            if works(&self.state, slot) {
+                return false;
+            }
         }
-        !found
+        true
     }
 
     /// How many turns in a row, from this one on, find nothing to do where the turns go round: those before the next slot
@@ -146,6 +153,16 @@ impl Flat {
         } else {
             next
         };
+        self.look_up();
+    }
+
+    /// The turns of the slot whose turn it is are looked up, where they are others now.
+    fn look_up(&mut self)
+        ensures { unix_of self.new ≡ unix_of self.old }
+    {
+        if !self.current.has(self.state.position, self.state.quantum) {
+            self.current = SlotTurns::at(self.state.position, self.state.quantum);
+        }
     }
 
     /// A turn of a slot below 64: the slot's process goes on by one step.
@@ -205,6 +222,7 @@ impl Flat {
         ensures ticks { unix_of self.new ≡ ticked_times number (unix_of self.old) }
     {
         self.state.position = advanced(self.state.position, number, 64 * self.state.quantum);
+        self.look_up();
     }
 }
 

@@ -1,5 +1,4 @@
-use Rattle.std.proofs.Common.{◌≡◌, ◌+◌, ◌*◌, ◌/◌, ◌<◌, ◌≤◌, ℕ, Bool, true, false, None, sym, subst, ap, ◌∙◌, arith}
-use Rattle.unix_model.specs.State.{Unix}
+use Rattle.std.proofs.Common.{◌≡◌, ◌+◌, ◌*◌, ◌/◌, ◌<◌, false, None, sym, subst, ◌∙◌, arith}
 use Rattle.unix_model.specs.Tables.{at}
 use Rattle.flat_unix.specs.FlatView.{unix_of}
 use Rattle.flat_unix.specs.FreeTurns.{has_nothing_to_do}

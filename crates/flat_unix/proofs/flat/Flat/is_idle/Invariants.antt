@@ -1,4 +1,4 @@
-use Rattle.std.proofs.Common.{◌≡◌, []}
+use Rattle.std.proofs.Common.{◌≡◌, false, []}
 use Rattle.unix_model.specs.Schedule.{is_work}
 use Rattle.unix_model.specs.Tables.{at, any_below}
 use Rattle.unix_model.specs.Turn.{turned_at}
@@ -7,4 +7,4 @@ use Rattle.unix_model.specs.Calls.{call_of}
 use Rattle.flat_unix.proofs.flat.Flat.is_idle.Given as goal
 
 abbrev pub invariant-loop-slot : goal.invariant-loop-slot
-invariant-loop-slot l = l.found ≡ any_below (λ slot. is_work (turned_at call_of (unix_of l.self) slot [] (at (unix_of l.self).processes slot)).answer) l.slot
+invariant-loop-slot l = any_below (λ slot. is_work (turned_at call_of (unix_of l.self) slot [] (at (unix_of l.self).processes slot)).answer) l.slot ≡ false
