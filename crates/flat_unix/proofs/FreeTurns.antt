@@ -137,9 +137,9 @@ module _ (position quantum : ℕ) (inside : position < 64 * quantum) where
   -- the turns before those of a slot are of slots below it
   pub slots-before : (slot k : ℕ) → position + k < slot * quantum → (position / quantum ≤ (position + k) / quantum) × ((position + k) / quantum < slot)
   slots-before slot k before = (
-      le-div (position / quantum) (position + k) quantum some-turns (omega (arith, div-mul-le_self position quantum)),
-      (div-lt_iff_lt-mul {k = quantum} {x = position + k} {y = slot} some-turns).1 before,
-    )
+    le-div (position / quantum) (position + k) quantum some-turns (omega (arith, div-mul-le_self position quantum)),
+    (div-lt_iff_lt-mul {k = quantum} {x = position + k} {y = slot} some-turns).1 before,
+  )
 
   -- the turns of a later slot come later
   pub slot-behind : (slot : ℕ) → position / quantum < slot → position < slot * quantum

@@ -4,7 +4,6 @@ ghost use Rattle.std.specs.Prelude.{◌≡◌};
 ghost use Rattle.flat_unix.specs.Boots.{flat_fault};
 
 use crate::flat::{Flat, FlatFault};
-use crate::slot_turns::SlotTurns;
 use flat_boot::BootFault;
 use std::alloc::Global;
 
@@ -29,10 +28,7 @@ impl Flat {
         ensures err { IfErr result IsNoMemory }
     {
         match flat_boot::new(alloc, pages, quantum) {
-            Ok(state) => Ok(Flat {
-                state,
-                current: SlotTurns::at(0, quantum),
-            }),
+            Ok(state) => Ok(Flat { state }),
             Err(_) => Err(FlatFault::NoMemory),
         }
     }

@@ -1,6 +1,5 @@
 //! The machine.
 
-use crate::slot_turns::SlotTurns;
 use crate::turning::step;
 use crate::waiting::works;
 use flat_boot::file_at;
@@ -28,8 +27,6 @@ pub enum FlatFault {
 #[derive(Drop)]
 pub struct Flat {
     pub(crate) state: State,
-    /// The turns of the slot whose turn it was last, where the turns went round.
-    pub(crate) current: SlotTurns,
 }
 
 ghost use Rattle.std.specs.Prelude.{◌≡◌, ◌+◌, ◌%◌, ◌<◌, ◌≤◌};
@@ -72,9 +69,6 @@ impl Flat {
         ensures slot { (mark : Option Bool) → result ≡ next_slot (unix_of self.now) (Round mark) }
         ensures below { result < 64 }
     {
-        if self.current.has(self.state.position, self.state.quantum) {
-            return self.current.slot();
-        }
         (self.state.position / self.state.quantum) as u8
     }
 
@@ -153,16 +147,6 @@ impl Flat {
         } else {
             next
         };
-        self.look_up();
-    }
-
-    /// The turns of the slot whose turn it is are looked up, where they are others now.
-    fn look_up(&mut self)
-        ensures { unix_of self.new ≡ unix_of self.old }
-    {
-        if !self.current.has(self.state.position, self.state.quantum) {
-            self.current = SlotTurns::at(self.state.position, self.state.quantum);
-        }
     }
 
     /// A turn of a slot below 64: the slot's process goes on by one step.
@@ -222,7 +206,6 @@ impl Flat {
         ensures ticks { unix_of self.new ≡ ticked_times number (unix_of self.old) }
     {
         self.state.position = advanced(self.state.position, number, 64 * self.state.quantum);
-        self.look_up();
     }
 }
 

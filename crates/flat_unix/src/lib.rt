@@ -6,7 +6,6 @@ mod boot;
 mod calls;
 mod families;
 mod flat;
-mod slot_turns;
 mod steps;
 mod texts;
 mod transfers;

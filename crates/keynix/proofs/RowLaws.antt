@@ -60,10 +60,10 @@ tick-on unix mark number free =
 
 free-on : (unix : Unix) (mark : Option Bool) (number : ℕ) → GivesFree unix (Round mark) (suc (suc number)) → GivesFree (record unix { position = unix.position + 1 }) (Round mark) (suc number)
 free-on unix mark number free = (
-    omega (arith, free.0),
-    λ k few. let next : unix.position + suc k ≡ unix.position + 1 + k = omega arith in
+  omega (arith, free.0),
+  λ k few. let next : unix.position + suc k ≡ unix.position + 1 + k = omega arith in
       subst (λ position. has_nothing_to_do (at unix.processes (position / unix.quantum)) ≡ true) next (free.1 (suc k) (omega (arith, few))),
-  )
+)
 
 -- no round begins behind such a turn
 round-goes_on : (unix : Unix) (mark : Option Bool) (rest : ℕ) (input : List ℕ)

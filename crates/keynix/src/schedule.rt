@@ -98,6 +98,7 @@ impl Schedule {
 }
 
 /// Where a round begins, whether the machine is idle, and else the mark of the round so far.
+#[inline(always)]
 fn mark_at(flat: &Flat, mark: Option<bool>) -> Option<bool>
     ensures { result ≡ model.mark_at call_of (unix_of flat.now) mark }
 {

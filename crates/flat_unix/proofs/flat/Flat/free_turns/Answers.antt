@@ -5,13 +5,10 @@ use Rattle.flat_unix.proofs.flat.Flat.free_turns.Goals as goal
 
 pub returns-clause-turns : goal.returns-clause-turns
 returns-clause-turns c =
-    c.look_up.ensures
-    ∙ ap (at_position (unix_of c.args.self.now)) c.advanced-self.ensures
+    ap (at_position (unix_of c.args.self.now)) c.advanced-self.ensures
     ∙ sym (ticked-rounds c.args.number (unix_of c.args.self.now) c.args.self.now.state.in_round)
     ∙ sym (after-nothing c.args.number c.args.slot (unix_of c.args.self.now) c.requires.free)
 
 pub returns-clause-ticks : goal.returns-clause-ticks
 returns-clause-ticks c =
-    c.look_up.ensures
-    ∙ ap (at_position (unix_of c.args.self.now)) c.advanced-self.ensures
-    ∙ sym (ticked-rounds c.args.number (unix_of c.args.self.now) c.args.self.now.state.in_round)
+    ap (at_position (unix_of c.args.self.now)) c.advanced-self.ensures ∙ sym (ticked-rounds c.args.number (unix_of c.args.self.now) c.args.self.now.state.in_round)
