@@ -246,6 +246,4 @@ count_read a b c d e f g h count ha hb hc hd he hf hg hh is =
     le_bytes_8 (a ∷ b ∷ c ∷ d ∷ e ∷ f ∷ g ∷ h ∷ []) count refl
     (each_byte (a ∷ b ∷ c ∷ d ∷ e ∷ f ∷ g ∷ h ∷ []) (ha, (hb, (hc, (hd, (he, (hf, (hg, (hh, tt))))))))) is
 
-pub ruleset read_laws = (page_read, node_read, segment_read, start_read, resume_read, none_read)
-
 pub ruleset number_laws = (word_read, count_read)

@@ -1,6 +1,6 @@
 //! Keys: what a program of this machine holds in place of a pointer.
 
-ghost use Rattle.std.specs.Prelude.{◌≡◌, ◌≢◌, ℕ, IfSome, IfNone, [], ◌∷◌};
+ghost use Rattle.std.specs.Prelude.{◌≡◌, ◌≢◌, ℕ, IfSome, IfNone, drop, [], ◌∷◌};
 ghost use Rattle.std.specs.Int.{to_le_bytes, w32, w64};
 ghost use Rattle.kn_base.specs.declared.key.Key.{Key};
 ghost use Rattle.kn_base.specs.Keys.{spelling, spelled_key, sixteen, word_body, counted_body, KeyFits};
@@ -110,10 +110,19 @@ fn read_key(bytes: [u8; 16]) -> Option<Key>
     let word = word_of(a, b, c, d);
     let count = count_of(e, f, g, h, i, j, k, l);
     if (low == 0) & (high == 0) {
-        key_in(kind, side, word, count)
+        key_in(kind, side, word, count, body_in(bytes))
     } else {
         None
     }
+}
+
+// The body in the sixteen bytes of a key.
+fn body_in(bytes: [u8; 16]) -> [u8; 12]
+    ensures { result ≡ drop 4 bytes }
+{
+    let mut body = [0; 12];
+    body.copy_from_slice(&bytes[4..]);
+    body
 }
 
 // The word with these bytes.
@@ -133,16 +142,17 @@ fn count_of(a: u8, b: u8, c: u8, d: u8, e: u8, f: u8, g: u8, h: u8) -> u64
 }
 
 // The key of this kind with this side byte and a body of this word and this count. Where a kind does not use one of them, it
-// has to be zero.
-#[tactic(auto, using(crate::proofs::ReadLaws::read_laws))]
-fn key_in(kind: u8, side: u8, word: u32, count: u64) -> Option<Key>
+// has to be zero. The body itself is for a number, which is copied and not put together again.
+#[tactic(auto, using(crate::proofs::ReadLaws::none_read))]
+fn key_in(kind: u8, side: u8, word: u32, count: u64, body: [u8; 12]) -> Option<Key>
+    requires { body ≡ counted_body word count }
     ensures { result ≡ spelled_key (sixteen kind side (counted_body word count)) }
 {
     let page = PageId(word);
     let id = NodeId(word);
     match kind {
         0 => ((side == 0) & (word == 0) & (count == 0)).then_some(Key::Null),
-        1 => (side == 0).then_some(Key::Number(counted_body(word, count))),
+        1 => (side == 0).then_some(Key::Number(body)),
         2 => ((side <= 1) & (count == 0)).then_some(Key::Page {
             id: page,
             writable: side == 1,
