@@ -10,7 +10,7 @@ use Rattle.forest.specs.Changes.{with_key}
 use Rattle.forest.specs.Laws.{CallChangesMap, OwnWayIsOwn, CallDropsSpace}
 use Rattle.forest.proofs.ExactLaws.{not_named, nobody_counted}
 use Rattle.forest.proofs.OwnLaws.{own_page_is_alone}
-use Rattle.forest.proofs.ReleaseLaws.{no_name, last_key, front_owned, release_unnamed, release_keeps_spaces, release_gives_unnamed}
+use Rattle.forest.proofs.ReleaseLaws.{no_name, tail_space, last_key, front_owned, release_unnamed, release_keeps_spaces, release_gives_unnamed}
 use Rattle.forest.proofs.ReachLaws.{nothing_in_hand}
 use Rattle.forest.proofs.DescentLaws.{changes_one_page, leaf_names_page}
 
@@ -35,6 +35,10 @@ call_changes_map outside space owner old last new page node key taken held is_sp
           stay = λ other is apart. (released.1 other (between other is)).0;
           maps = λ other is apart. (released.1 other (between other is)).1 ∙ one.others other (with_leaf old [] key fits other is) apart;
         };
+        roots = λ other is.
+            let r = released.2 other is in
+            let p = one.roots other r.was in
+            record { was = tail_space old key [] other p.was; owner = r.owner ∙ p.owner; keeper = r.keeper ∙ p.keeper };
       },
       one.few,
     )
@@ -68,6 +72,9 @@ call_drops_space outside space old new held once release =
           stay = λ other is apart. (released.1 other (in_hand_now other is apart)).0;
           maps = λ other is apart. (released.1 other (in_hand_now other is apart)).1;
         };
+        roots = λ other is.
+            let r = released.2 other is in
+            record { was = tail_space old (space_key space) [] other r.was; owner = r.owner; keeper = r.keeper };
       },
     )
   where
