@@ -17,6 +17,10 @@ use Rattle.forest.proofs.MapLaws.{at-filled, at-filled-other, page_parts, unname
 use Rattle.forest.proofs.CopyLaws.{free_unnamed}
 use Rattle.forest.proofs.ReachLaws.{nothing_in_hand}
 
+-- a root that is kept twice is kept
+pub root_trans : (old mid new : Forest) (before between : List Key) (space : ℕ) → KeepsRoot old mid before space → KeepsRoot mid new between space → KeepsRoot old new before space
+root_trans old mid new before between space first second = record { was = first.was; owner = second.owner ∙ first.owner; keeper = second.keeper ∙ first.keeper }
+
 root_out : (outside : Object → ℕ) (fresh : ℕ) → 1 ≤ and_outside outside (space_key fresh) (NodeObject fresh)
 unfolding and_outside
 root_out outside fresh = rw (same_object-same (NodeObject fresh)) (omega arith)

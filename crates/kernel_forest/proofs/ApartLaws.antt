@@ -1,5 +1,5 @@
 -- What belongs to no tree stays, while objects of trees are taken, counted, written and given back.
-use Rattle.std.proofs.Common.{◌≡◌, ◌≢◌, ◌<◌, ◌-◌, ℕ, true, false, Option, List, [], length, set, get_or, get_or-set_other, refl, ap, sym, ◌∙◌, ⊎_elim}
+use Rattle.std.proofs.Common.{◌≡◌, ◌≢◌, ◌<◌, ◌-◌, ℕ, Bool, true, false, nat_lt, Option, None, List, [], length, set, get_or, get_or-set_other, refl, ap, sym, ◌∙◌, if◌then◌else◌, ⊎_elim}
 use Rattle.std.specs.Option.{IsSome}
 use Rattle.std.proofs.Math.Path.{fun_ext}
 use Rattle.std.proofs.lemmas.Bool.{cases_eq}
@@ -8,18 +8,18 @@ use Rattle.kernel_tables.specs.declared.entry.PageOwner.{PageOwner}
 use Rattle.kernel_tables.specs.declared.entry.NodeOwner.{NodeOwner}
 use Rattle.kernel_tables.specs.declared.entry.Entry.{Entry}
 use Rattle.kernel_tables.specs.declared.entry.Entry.TheVariants.{Free, Taken, Fixed, Unspelled}
-use Rattle.kernel_tables.specs.Kernel.{Kernel, first_page}
+use Rattle.kernel_tables.specs.Kernel.{Kernel, first_page, with_bank_page}
 use Rattle.kernel_tables.specs.Rows.{entry_at}
 use Rattle.space_bank.specs.FreeList.{is_free}
 use Rattle.space_bank.specs.Bank.{TakesNode, TakesPage, page_given, node_given}
 use Rattle.space_bank.specs.Changes.{with_count, page_counted, node_counted}
 use Rattle.space_bank.proofs.EntryLaws.{set_cases}
-use Rattle.forest.specs.Objects.{Owner}
-use Rattle.kernel_forest.specs.Trees.{tree_in, page_tree, node_tree}
+use Rattle.forest.specs.Objects.{PageObject, Owner}
+use Rattle.kernel_forest.specs.Trees.{owner_of, forest_of, tree_in, page_tree, node_tree}
 use Rattle.kernel_forest.specs.Apart.{apart_entry, apart_bytes, Apart, apart_by, apart_of, KeepsApart}
 
 -- what belongs to a tree, and what is free, isn't seen
-pub in_tree : {O : Type 0} (tree : O → Option Owner) (entry : Entry O) → IsSome (tree_in tree entry) → apart_entry tree entry ≡ Free 0
+in_tree : {O : Type 0} (tree : O → Option Owner) (entry : Entry O) → IsSome (tree_in tree entry) → apart_entry tree entry ≡ Free 0
 in_tree tree (Free next) some = refl
 in_tree tree (Taken owner count) some = rw some refl
 in_tree tree Fixed some = cc
@@ -63,7 +63,7 @@ module _ (pages : List (Entry PageOwner)) (nodes : List (Entry NodeOwner)) (bank
       ap (λ (seen : ℕ → Entry PageOwner). apart (apart_by pages nodes bank).nodes seen (λ m. apart_bytes (seen m) (get_or bank m []))) (fun_ext (set_unseen page_tree pages n now inside was is))
 
   -- a page that isn't seen has other bytes
-  pub bytes_set : (bytes : List ℕ) → apart_entry page_tree (entry_at pages n) ≡ Free 0 → apart_by pages nodes (set bank n bytes) ≡ apart_by pages nodes bank
+  bytes_set : (bytes : List ℕ) → apart_entry page_tree (entry_at pages n) ≡ Free 0 → apart_by pages nodes (set bank n bytes) ≡ apart_by pages nodes bank
   unfolding apart_by apart
   bytes_set bytes was =
       ap (λ (there : ℕ → List ℕ). apart (apart_by pages nodes bank).nodes (apart_by pages nodes bank).pages there)
@@ -106,3 +106,15 @@ pub apart-page_given : (kernel : Kernel) (n : ℕ) → n < length kernel.page_en
 apart-page_given kernel n inside some =
     page_set kernel.page_entries kernel.node_entries (set kernel.bank n zero_page) n (Free kernel.machine.free_page) inside (in_tree page_tree (entry_at kernel.page_entries n) some) refl
     ∙ bytes_set kernel.page_entries kernel.node_entries kernel.bank n zero_page (in_tree page_tree (entry_at kernel.page_entries n) some)
+
+owned_entry : (low : Bool) (there : Option Owner) → IsSome (if low then None else there) → IsSome there
+owned_entry true there some = cc
+owned_entry false there some = some
+
+-- a page of a tree has other bytes
+pub apart-page_written : (kernel : Kernel) (page : ℕ) (bytes : List ℕ) → IsSome ((forest_of kernel).owner (PageObject page)) → KeepsApart kernel (record kernel { bank = with_bank_page kernel page bytes })
+unfolding owner_of
+apart-page_written kernel page bytes owned =
+    bytes_set kernel.page_entries kernel.node_entries kernel.bank (page - first_page kernel.size) bytes
+    (in_tree page_tree (entry_at kernel.page_entries (page - first_page kernel.size))
+    (owned_entry (nat_lt page (first_page kernel.size)) (tree_in page_tree (entry_at kernel.page_entries (page - first_page kernel.size))) owned))

@@ -194,6 +194,7 @@ module _ (k0 k1 k2 : Kernel) (fresh : NodeId) (to : Owner) (keeper : Key) (none 
     unnamed = λ outside trees. (takes.free outside [] tt trees.shares).none_outside;
     outside_now = (steps_trans k0 k1 k2 (with_taken (forest_of k0) (NodeObject fresh.0) to) (with_key (forest_of k1) (place_of fresh.0 15) keeper) 1 0 takes.steps puts.steps).outside_now;
     rows_now = (steps_trans k0 k1 k2 (with_taken (forest_of k0) (NodeObject fresh.0) to) (with_key (forest_of k1) (place_of fresh.0 15) keeper) 1 0 takes.steps puts.steps).rows_now;
+    apart_now = (steps_trans k0 k1 k2 (with_taken (forest_of k0) (NodeObject fresh.0) to) (with_key (forest_of k1) (place_of fresh.0 15) keeper) 1 0 takes.steps puts.steps).apart_now;
     rest = (steps_trans k0 k1 k2 (with_taken (forest_of k0) (NodeObject fresh.0) to) (with_key (forest_of k1) (place_of fresh.0 15) keeper) 1 0 takes.steps puts.steps).rest;
     number = (steps_trans k0 k1 k2 (with_taken (forest_of k0) (NodeObject fresh.0) to) (with_key (forest_of k1) (place_of fresh.0 15) keeper) 1 0 takes.steps puts.steps).number;
   }

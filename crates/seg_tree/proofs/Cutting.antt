@@ -13,7 +13,8 @@ use Rattle.unix_model.specs.Tables.{at, with_at}
 use Rattle.forest.specs.Objects.{Object, PageObject, NodeObject, named}
 use Rattle.forest.specs.Walks.{place_of, key_along, space_key, digits, map_of}
 use Rattle.forest.specs.Forest.{Forest, Held, Sound, IsSpace, EndsAt, OwnWay, NoneEmpty, NoneEmptyBut, key_height, namings, node_way}
-use Rattle.forest.specs.Changes.{with_given}
+use Rattle.forest.specs.Changes.{with_given, KeepsRoot}
+use Rattle.forest.proofs.RootLaws.{root_trans}
 use Rattle.forest.specs.Calls.{ChangesMap}
 use Rattle.forest.proofs.WalkLaws.{step}
 use Rattle.forest.proofs.ExactLaws.{nobody_counted}
@@ -102,6 +103,7 @@ module _ (k0 : Kernel) (above digit : ℕ) (node : NodeId) (known : Outside) (kn
               ∙ ap (λ f. with_given f (NodeObject node.0)) puts.steps.forest_now;
           outside_now = λ outside. lets.outside_now outside ∙ puts.steps.outside_now outside;
           rows_now = λ mine apart. lets.rows_now mine apart ∙ puts.steps.rows_now mine apart;
+          apart_now = lets.apart_now ∙ puts.steps.apart_now;
           rest = unreleased_trans k0 k1 k2 (unreleased k0 k1 puts.steps.rest) lets.rest;
           bank = ap (λ (k : Kernel). k.bank) given ∙ ap (λ (k : Kernel). k.bank) puts.steps.rest;
           fewer = omega arith;
@@ -126,6 +128,9 @@ module _ (k0 : Kernel) (above digit : ℕ) (node : NodeId) (known : Outside) (kn
           subst (λ f. IsSpace f [] other) (sym off.forest_now) kept.0,
           ap (λ (f : Forest). map_of f.keys other) off.forest_now ∙ kept.1,
         );
+    roots = λ other is.
+        let kept = (prune_keeps_maps (forest_of k0) (outside_trees k0 known) [] (place_of above digit) node.0 known_trees.held stands once nulls).2 other (subst (λ f. IsSpace f [] other) off.forest_now is) in
+        subst (λ f. KeepsRoot (forest_of k0) f [] other) (sym off.forest_now) kept;
     named_outside = λ outside trees object some many. ⊎_elim
         (λ (t : object ≡ NodeObject node.0). absurd ((trees.held.apart object many).0 (place_of above digit) (stands ∙ ap Some (sym t))))
         (λ (t : object ≢ NodeObject node.0). ap (λ (f : Forest). is_some (f.owner object)) off.forest_now
@@ -134,6 +139,7 @@ module _ (k0 : Kernel) (above digit : ℕ) (node : NodeId) (known : Outside) (kn
     fewer_owned = owned_before;
     outside_now = off.outside_now;
     rows_now = off.rows_now;
+    apart_now = off.apart_now;
     rest = off.rest;
     bank = off.bank;
     pages = λ number. ap (λ (f : Forest). f.owner (PageObject number)) off.forest_now
@@ -148,10 +154,12 @@ pub prunes_none : (kernel : Kernel) → Prunes kernel kernel
 prunes_none kernel = record {
   trees = λ outside trees. trees;
   spaces = λ other is. (is, refl);
+  roots = λ other is. record { was = is; owner = refl; keeper = refl };
   named_outside = λ outside trees object some many. some;
   fewer_owned = λ object some. some;
   outside_now = λ outside. refl;
   rows_now = λ mine apart. refl;
+  apart_now = refl;
   rest = refl;
   bank = refl;
   pages = λ number. refl;
@@ -162,11 +170,15 @@ pub prunes_trans : (k0 k1 k2 : Kernel) → Prunes k0 k1 → Prunes k1 k2 → Pru
 prunes_trans k0 k1 k2 first second = record {
   trees = λ outside trees. second.trees outside (first.trees outside trees);
   spaces = λ other is. let a = first.spaces other is in let b = second.spaces other a.0 in (b.0, b.1 ∙ a.1);
+  roots = λ other is.
+      let b = second.roots other is in
+      root_trans (forest_of k0) (forest_of k1) (forest_of k2) [] [] other (first.roots other b.was) b;
   named_outside = λ outside trees object some many. second.named_outside outside (first.trees outside trees) object (first.named_outside outside trees object some many)
       (let same = ap (λ (out : Object → ℕ). out object) (first.outside_now outside) in omega arith);
   fewer_owned = λ object some. first.fewer_owned object (second.fewer_owned object some);
   outside_now = λ outside. second.outside_now outside ∙ first.outside_now outside;
   rows_now = λ mine apart. second.rows_now mine apart ∙ first.rows_now mine apart;
+  apart_now = second.apart_now ∙ first.apart_now;
   rest = unreleased_trans k0 k1 k2 first.rest second.rest;
   bank = second.bank ∙ first.bank;
   pages = λ number. second.pages number ∙ first.pages number;
@@ -320,11 +332,15 @@ module _ (k0 k1 k2 : Kernel) (space page : ℕ) (was : Key) (put : PutsLeaf k0 k
                   stay = λ other is apart. (pruned.spaces other (change.others.stay other is apart)).0;
                   maps = λ other is apart. (pruned.spaces other (change.others.stay other is apart)).1 ∙ change.others.maps other is apart;
                 };
+                roots = λ other is.
+                    let last = pruned.roots other is in
+                    root_trans (forest_of k0) (forest_of k2) (forest_of k3) [] [] other (change.roots other last.was) last;
               },
             );
         filled = λ before. filled put.node unmapped_end (subst (λ (keys : ℕ → Key). NoneEmptyBut keys put.node) (sym keeps.keys) (put.but before));
         outside_now = outside_same;
         rows_now = λ mine apart. pruned.rows_now mine apart ∙ lets.rows_now mine apart ∙ put.rows_now mine apart;
+        apart_now = pruned.apart_now ∙ lets.apart_now ∙ put.apart_now;
         rest = unreleased_trans k0 k2 k3 (unreleased_trans k0 k1 k2 (unreleased k0 k1 put.rest) lets.rest) pruned.rest;
         bytes = λ number inside still.
             let size_one : k1.size ≡ k0.size = ap (λ (k : Kernel). k.size) put.rest in

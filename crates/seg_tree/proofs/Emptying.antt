@@ -82,13 +82,14 @@ lets_trans a b c p q r first second = record {
       (y.0, release_trans (forest_of a) (forest_of b) (forest_of c) (p ++ hand) (q ++ hand) (r ++ hand) x.1 y.1);
   outside_now = λ outside. second.outside_now outside ∙ first.outside_now outside;
   rows_now = λ mine apart. second.rows_now mine apart ∙ first.rows_now mine apart;
+  apart_now = second.apart_now ∙ first.apart_now;
   rest = unreleased_trans a b c first.rest second.rest;
   keeps = bytes_trans a b c (ap (λ (k : Kernel). k.size) first.rest) first.keeps second.keeps;
 }
 
 -- one key is let go before another one in hand
 pub lets_before : (old new : Kernel) (key other : Key) → Lets old new (key ∷ []) [] → Lets old new (key ∷ other ∷ []) (other ∷ [])
-lets_before old new key other l = record { lets = λ outside hand releasing. l.lets outside (other ∷ hand) releasing; outside_now = l.outside_now; rows_now = l.rows_now; rest = l.rest; keeps = l.keeps }
+lets_before old new key other l = record { lets = λ outside hand releasing. l.lets outside (other ∷ hand) releasing; outside_now = l.outside_now; rows_now = l.rows_now; apart_now = l.apart_now; rest = l.rest; keeps = l.keeps }
 
 pub hand_after : (old new : Kernel) (p q : List Key) → Lets old new p q → InHand old p → InHand new q
 hand_after old new p q l h = (h.0, h.1, (l.lets h.0 h.1 h.2).0)
@@ -144,6 +145,7 @@ lets_out old new node digit height once below tree puts = record {
       );
   outside_now = puts.steps.outside_now;
   rows_now = puts.steps.rows_now;
+  apart_now = puts.steps.apart_now;
   rest = unreleased old new puts.steps.rest;
   keeps = keeps_bytes old new (with_key (forest_of old) (place_of node.0 digit) Null) puts.steps.forest_now (λ object some. some) (same_bytes old new puts.steps.rest);
 }
@@ -229,6 +231,7 @@ empties_none kernel node height fits once = record {
     lets = λ outside hand r. (r, done);
     outside_now = λ outside. refl;
     rows_now = λ mine apart. refl;
+    apart_now = refl;
     rest = refl;
     keeps = keeps_bytes kernel kernel (forest_of kernel) refl (λ object some. some) (λ page. refl);
   };
@@ -338,6 +341,7 @@ drops_space kernel new space known good is_space known_trees lets = record {
       release_leaves_none_empty (forest_of kernel) (forest_of new) (outside_trees kernel known) (Segment space 5 ∷ []) [] hand.held (lets.lets known [] hand).1 filled;
   outside_now = lets.outside_now;
   rows_now = lets.rows_now;
+  apart_now = lets.apart_now;
   rest = lets.rest;
   keeps = lets.keeps;
 }

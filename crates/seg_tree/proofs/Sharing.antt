@@ -224,6 +224,7 @@ module _ (k0 k1 : Kernel) (space fresh : NodeId) (to : Owner) (known : Outside) 
     unnamed = λ outside trees. (takes.free outside [] tt trees.shares).none_outside;
     outside_now = steps.outside_now;
     rows_now = steps.rows_now;
+    apart_now = steps.apart_now;
     rest = steps.rest;
     number = steps.number;
   }

@@ -28,6 +28,7 @@ returns-clause-mapped g c =
       ways = put.ways;
       outside_now = put.outside_now;
       rows_now = put.rows_now;
+      apart_now = put.apart_now;
       rest = put.rest;
       most = put.most;
     }
