@@ -10,7 +10,7 @@ use Rattle.space_bank.specs.Shares.{Shares}
 use Rattle.space_bank.specs.Laws.{and_outside}
 use Rattle.space_bank.proofs.HandLaws.{handed-out}
 use Rattle.unix_model.specs.Tables.{at, with_at}
-use Rattle.forest.specs.Objects.{Object, NodeObject, Owner, named, names, with_object}
+use Rattle.forest.specs.Objects.{PageObject, Object, NodeObject, Owner, named, names, with_object}
 use Rattle.forest.specs.Walks.{place_of, key_below, space_key}
 use Rattle.forest.specs.Forest.{Forest, Sound, Held, IsRoot, FitsUnder, FitsBelow, NobodyNames, in_hand, key_height}
 use Rattle.forest.specs.Changes.{with_key, with_taken, filled, WithRoot, MayStand, BelongsAt, and_outside as and_outside_trees}
@@ -26,6 +26,7 @@ use Rattle.forest.proofs.EmptyLaws.{write_elsewhere_keeps_filled}
 use Rattle.forest.proofs.CountLaws.{true-names}
 use Rattle.forest.proofs.ExactLaws.{not_named}
 use Rattle.forest.specs.Forest.{NoneEmpty}
+use Rattle.kernel_forest.proofs.ApartLaws.{inside_same}
 use Rattle.kernel_forest.proofs.InTrees.{AllTreeKeys, AllSingle, written_in_trees}
 use Rattle.kernel_forest.proofs.Outside.{space_out}
 use Rattle.unix_model.proofs.TableLaws.{at-with_at, at-with_at-other}
@@ -195,6 +196,11 @@ module _ (k0 k1 k2 : Kernel) (fresh : NodeId) (to : Owner) (keeper : Key) (none 
     outside_now = (steps_trans k0 k1 k2 (with_taken (forest_of k0) (NodeObject fresh.0) to) (with_key (forest_of k1) (place_of fresh.0 15) keeper) 1 0 takes.steps puts.steps).outside_now;
     rows_now = (steps_trans k0 k1 k2 (with_taken (forest_of k0) (NodeObject fresh.0) to) (with_key (forest_of k1) (place_of fresh.0 15) keeper) 1 0 takes.steps puts.steps).rows_now;
     apart_now = (steps_trans k0 k1 k2 (with_taken (forest_of k0) (NodeObject fresh.0) to) (with_key (forest_of k1) (place_of fresh.0 15) keeper) 1 0 takes.steps puts.steps).apart_now;
+    spelled_now = (steps_trans k0 k1 k2 (with_taken (forest_of k0) (NodeObject fresh.0) to) (with_key (forest_of k1) (place_of fresh.0 15) keeper) 1 0 takes.steps puts.steps).spelled_now;
+    inside = λ outside. inside_same k0 k2 outside ((steps_trans k0 k1 k2 (with_taken (forest_of k0) (NodeObject fresh.0) to) (with_key (forest_of k1) (place_of fresh.0 15) keeper) 1 0 takes.steps puts.steps).outside_now outside)
+        (λ number some.
+        let same = ap (λ (f : Forest). f.owner (PageObject number)) forest_is ∙ other_object (forest_of k0).owner (NodeObject fresh.0) (Some to) (PageObject number) (λ e. cc) in
+        ap is_some (sym same) ∙ some);
     rest = (steps_trans k0 k1 k2 (with_taken (forest_of k0) (NodeObject fresh.0) to) (with_key (forest_of k1) (place_of fresh.0 15) keeper) 1 0 takes.steps puts.steps).rest;
     number = (steps_trans k0 k1 k2 (with_taken (forest_of k0) (NodeObject fresh.0) to) (with_key (forest_of k1) (place_of fresh.0 15) keeper) 1 0 takes.steps puts.steps).number;
   }

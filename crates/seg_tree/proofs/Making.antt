@@ -25,6 +25,7 @@ use Rattle.forest.proofs.DescentLaws.{AtEnd, makes_way_own}
 use Rattle.forest.proofs.CallLaws.{own_way_is_own}
 use Rattle.forest.proofs.AloneLaws.{own_has_own_way}
 use Rattle.forest.proofs.EmptyLaws.{descent_leaves_last_empty, write_fills}
+use Rattle.kernel_forest.proofs.ApartLaws.{inside_same}
 use Rattle.kernel_forest.specs.Trees.{forest_of, outside_trees, page_tree, TreesGood}
 use Rattle.kernel_forest.specs.Moves.{KeepsRest}
 use Rattle.kernel_forest.proofs.GivingNodes.{unreleased, same_bytes}
@@ -232,6 +233,8 @@ module _ (old mid : Kernel) (space page node found : ℕ) (to : Owner) (below : 
         outside_now = d.outside_now;
         rows_now = d.rows_now;
         apart_now = d.apart_now;
+        spelled_now = d.spelled_now;
+        inside = λ outside all. inside_same old mid outside (d.outside_now outside) (λ number some. ap is_some (sym (made_pages d.made number)) ∙ some);
         rest = unreleased old mid d.rest;
         kept = λ own. (refl, d.same (unchanged old mid space page node found to below is_space owner mapped known trees d own).0);
         copied = λ no. absurd (no (own_before old mid space page node found to below is_space owner mapped known trees d good page_owner real single));
@@ -332,6 +335,16 @@ module _ (old mid : Kernel) (space page node found : ℕ) (to : Owner) (below : 
           outside_now = λ outside. c.takes.outside_now outside ∙ d.outside_now outside;
           rows_now = λ mine apart. c.takes.rows_now mine apart ∙ d.rows_now mine apart;
           apart_now = c.takes.apart_now ∙ d.apart_now;
+          spelled_now = λ place some. c.takes.spelled_now place (d.spelled_now place some);
+          inside = λ outside all none number some. ⊎_elim
+              (λ (t : PageObject number ≡ PageObject fresh).
+              ap (λ (out : Object → ℕ). out (PageObject number)) (c.takes.outside_now outside) ∙ ap (outside_trees mid outside) t ∙ (free outside all).none_outside)
+              (λ (t : PageObject number ≢ PageObject fresh).
+              let a = there outside all in
+              let still = other_owner_now (forest_of mid) (outside_trees mid outside) space page node fresh to a.trees.held a.is_space a.owner below a.above a.ends (free outside all) real is_many (PageObject number) t in
+              ap (λ (out : Object → ℕ). out (PageObject number)) (c.takes.outside_now outside ∙ d.outside_now outside)
+              ∙ none number (ap is_some (sym (made_pages d.made number)) ∙ ap is_some (sym still) ∙ ap (λ (f : Forest). is_some (f.owner (PageObject number))) (sym c.takes.forest_now) ∙ some))
+              (is_or_not (PageObject number) (PageObject fresh));
           rest = unreleased_trans old mid new (unreleased old mid d.rest) c.takes.rest;
           kept = λ own.
               let one = own_single old mid space page node found to below is_space owner mapped known trees d own in

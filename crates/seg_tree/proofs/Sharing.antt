@@ -11,7 +11,7 @@ use Rattle.space_bank.specs.Shares.{Outside}
 use Rattle.space_bank.specs.Laws.{and_outside}
 use Rattle.space_bank.proofs.HandLaws.{handed-out}
 use Rattle.unix_model.specs.Tables.{at, count_below}
-use Rattle.forest.specs.Objects.{Object, NodeObject, Owner, named, names, with_object}
+use Rattle.forest.specs.Objects.{PageObject, Object, NodeObject, Owner, named, names, with_object}
 use Rattle.forest.specs.Walks.{place_of, space_key, map_of}
 use Rattle.forest.specs.Forest.{Forest, Held, IsSpace, IsRoot, FitsUnder, NobodyNames, NoneEmpty, IsFilled}
 use Rattle.forest.specs.Changes.{with_key, with_taken, raised, filled, WithRoot, and_outside as and_outside_trees}
@@ -24,6 +24,7 @@ use Rattle.forest.proofs.OwnLaws.{owned_object}
 use Rattle.forest.proofs.ReleaseLaws.{front, some_not_none}
 use Rattle.forest.proofs.RootLaws.{call_shares_space}
 use Rattle.forest.proofs.ShareLaws.{share_keeps_held}
+use Rattle.kernel_forest.proofs.ApartLaws.{inside_same}
 use Rattle.kernel_forest.specs.Trees.{forest_of, outside_trees, IsTreeKey, TreesGood}
 use Rattle.kernel_forest.specs.Moves.{Steps, Changes, TakesFresh}
 use Rattle.kernel_forest.proofs.InTrees.{AllTreeKeys, AllSingle}
@@ -225,6 +226,11 @@ module _ (k0 k1 : Kernel) (space fresh : NodeId) (to : Owner) (known : Outside) 
     outside_now = steps.outside_now;
     rows_now = steps.rows_now;
     apart_now = steps.apart_now;
+    spelled_now = steps.spelled_now;
+    inside = λ outside. inside_same k0 k2 outside (steps.outside_now outside)
+        (λ number some.
+        let same = ap (λ (f : Forest). f.owner (PageObject number)) forest_is ∙ ap (λ (o : Object → Option Owner). o (PageObject number)) all.owner ∙ other_object (forest_of k0).owner (NodeObject fresh.0) (Some to) (PageObject number) (λ e. cc) in
+        ap is_some (sym same) ∙ some);
     rest = steps.rest;
     number = steps.number;
   }

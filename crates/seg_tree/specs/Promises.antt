@@ -10,7 +10,7 @@ use Rattle.forest.specs.Walks.{Mapping, place_of, space_key}
 use Rattle.forest.specs.Forest.{NoneEmpty, namings}
 use Rattle.forest.specs.Calls.{ChangesMap, AddsSpace, DropsSpace}
 use Rattle.unix_model.specs.Tables.{at}
-use Rattle.kernel_forest.specs.Apart.{KeepsApart}
+use Rattle.kernel_forest.specs.Apart.{KeepsApart, KeepsSpelled, KeepsInside}
 use Rattle.kernel_forest.specs.Trees.{forest_of, outside_trees, TreesGood}
 use Rattle.kernel_forest.specs.Moves.{KeepsRest}
 use Rattle.kernel_forest.specs.Releases.{KeepsUnreleased, KeepsBytes}
@@ -27,6 +27,8 @@ pub record Remaps (old new : Kernel) (space few : ℕ) (map : ℕ → Option Map
   pub outside_now : (outside : Outside) → outside_trees new outside ≡ outside_trees old outside
   pub rows_now : KeepsRows old new
   pub apart_now : KeepsApart old new
+  pub spelled_now : KeepsSpelled old new
+  pub inside : (outside : Outside) → KeepsInside old new outside
   pub rest : KeepsRest old new
   pub most : new.machine.nodes_taken ≤ old.machine.nodes_taken + few
 
@@ -37,6 +39,8 @@ pub record Replaces (old new : Kernel) (space few : ℕ) (map : ℕ → Option M
   pub outside_now : (outside : Outside) → outside_trees new outside ≡ outside_trees old outside
   pub rows_now : KeepsRows old new
   pub apart_now : KeepsApart old new
+  pub spelled_now : KeepsSpelled old new
+  pub inside : (outside : Outside) → KeepsInside old new outside
   pub rest : KeepsUnreleased old new
   pub bytes : (number : ℕ) → IsBankPage old.size number
       → (IsSome ((forest_of old).owner (PageObject number)) → IsSome ((forest_of new).owner (PageObject number)))
@@ -54,6 +58,8 @@ pub record Adds (old new : Kernel) (space : ℕ) (owner : Option Owner) (keeper 
   pub outside_now : (outside : Outside) → outside_trees new outside ≡ outside_trees old outside
   pub rows_now : KeepsRows old new
   pub apart_now : KeepsApart old new
+  pub spelled_now : KeepsSpelled old new
+  pub inside : (outside : Outside) → KeepsInside old new outside
   pub rest : KeepsRest old new
   pub number : new.machine.nodes_taken ≡ old.machine.nodes_taken + 1
 
@@ -68,6 +74,8 @@ pub record Drops (old new : Kernel) (space : ℕ) : Type 0 where
   pub outside_now : (outside : Outside) → outside_trees new outside ≡ outside_trees old outside
   pub rows_now : KeepsRows old new
   pub apart_now : KeepsApart old new
+  pub spelled_now : KeepsSpelled old new
+  pub inside : (outside : Outside) → KeepsInside old new outside
   pub rest : KeepsUnreleased old new
   pub keeps : KeepsBytes old new
 

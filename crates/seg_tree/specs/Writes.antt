@@ -13,7 +13,7 @@ use Rattle.forest.specs.Walks.{Mapping, map_of}
 use Rattle.forest.specs.Forest.{Forest, IsSpace, NoneEmpty}
 use Rattle.forest.specs.Changes.{with_taken, with_key, lowered, IsFree}
 use Rattle.forest.specs.Calls.{ChangesMap, IsOwn}
-use Rattle.kernel_forest.specs.Apart.{KeepsApart}
+use Rattle.kernel_forest.specs.Apart.{KeepsApart, KeepsSpelled, KeepsInside}
 use Rattle.kernel_forest.specs.Trees.{forest_of, outside_trees, page_tree, AreTreeKeys, TreesGood}
 use Rattle.kernel_forest.specs.Releases.{KeepsUnreleased}
 use Rattle.seg_tree.specs.Ways.{HasOwnWay, KeepsWays}
@@ -42,6 +42,7 @@ pub record TakesCopy (old new : Kernel) (forest : Forest) (found fresh : ℕ) : 
   pub outside_now : (outside : Outside) → outside_trees new outside ≡ outside_trees old outside
   pub rows_now : KeepsRows old new
   pub apart_now : KeepsApart old new
+  pub spelled_now : KeepsSpelled old new
   pub rest : KeepsUnreleased old new
   pub nodes : new.machine.nodes_taken ≡ old.machine.nodes_taken
   pub pages : new.machine.pages_taken ≡ old.machine.pages_taken + 1
@@ -91,6 +92,8 @@ pub record Owns (old new : Kernel) (space page result : ℕ) (owner : PageOwner)
   pub outside_now : (outside : Outside) → outside_trees new outside ≡ outside_trees old outside
   pub rows_now : KeepsRows old new
   pub apart_now : KeepsApart old new
+  pub spelled_now : KeepsSpelled old new
+  pub inside : (outside : Outside) → TreesGood old outside [] → KeepsInside old new outside
   pub rest : KeepsUnreleased old new
   pub kept : IsOwn (forest_of old) space page found → (result ≡ found.page) × (new ≡ old)
   pub copied : (IsOwn (forest_of old) space page found → ⊥) → TakesOne old new result owner

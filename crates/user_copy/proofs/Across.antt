@@ -155,6 +155,8 @@ nothing_put kernel space address [] none = record {
   outside_now = λ outside. refl;
   rows_now = λ mine apart. refl;
   apart_now = refl;
+  spelled_now = λ place some. some;
+  inside = λ outside was within. within;
   rest = refl;
   pages = λ number page off. refl;
   taken = λ taken counts. let zero_taken : taken ≡ 0 = counts in omega arith;
@@ -183,6 +185,8 @@ module _ (k0 k1 : Kernel) (space address : ℕ) (bytes : List ℕ) (is : IsSpace
     outside_now = piece.outside_now;
     rows_now = piece.rows_now;
     apart_now = piece.apart_now;
+    spelled_now = piece.spelled_now;
+    inside = piece.inside;
     rest = piece.rest;
     pages = λ number page off. piece.pages number page (λ e.
         off (address / 4096) (writable_mapping piece.result) (some, omega arith, omega arith) (map_here (forest_of k0) (forest_of k1) space (address / 4096) piece.result is piece.owns) (sym e));
@@ -272,6 +276,8 @@ module _ (k0 k1 k2 : Kernel) (space address next : ℕ) (first rest : List ℕ) 
     outside_now = λ outside. b.outside_now outside ∙ a.outside_now outside;
     rows_now = λ mine apart. b.rows_now mine apart ∙ a.rows_now mine apart;
     apart_now = b.apart_now ∙ a.apart_now;
+    spelled_now = λ place some. b.spelled_now place (a.spelled_now place some);
+    inside = λ outside was within. b.inside outside (a.trees outside was) (a.inside outside was within);
     rest = unreleased_trans k0 k1 k2 a.rest b.rest;
     pages = λ number p off.
         b.pages number (subst (λ s. IsBankPage s number) (sym sizes) p) (λ e.

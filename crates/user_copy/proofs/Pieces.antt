@@ -161,6 +161,8 @@ module _ (k0 k1 : Kernel) (space address result : ℕ) (owner : PageOwner) (byte
     apart_now = apart-page_written k1 result (overwritten (bank_page k1 result) (address % 4096) bytes)
         (found_owned (forest_of k1) space (address / 4096) (writable_mapping result) (owns.changes known trees).0.held.sound (owns.changes known trees).1.stays owns.own.mapped owns.own.real)
         ∙ owns.apart_now;
+    spelled_now = owns.spelled_now;
+    inside = owns.inside;
     rest = rest_now;
     pages = bytes_there;
     kept = λ own. ap (λ (k : Kernel). k.machine.pages_taken) (owns.kept own).1;

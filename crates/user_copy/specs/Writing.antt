@@ -11,7 +11,7 @@ use Rattle.forest.specs.Forest.{Forest, IsSpace, NoneEmpty}
 use Rattle.forest.specs.Changes.{KeepsRoot}
 use Rattle.forest.specs.Calls.{IsOwn}
 use Rattle.kernel_forest.specs.Trees.{forest_of, outside_trees, TreesGood}
-use Rattle.kernel_forest.specs.Apart.{KeepsApart}
+use Rattle.kernel_forest.specs.Apart.{KeepsApart, KeepsSpelled, KeepsInside}
 use Rattle.kernel_forest.specs.Releases.{KeepsUnreleased}
 use Rattle.user_copy.specs.SpaceMemory.{space_memory}
 use Rattle.seg_tree.specs.Writes.{writable_mapping}
@@ -65,6 +65,8 @@ pub record PutsPiece (old new : Kernel) (space at : ℕ) (bytes : List ℕ) : Ty
   pub outside_now : (outside : Outside) → outside_trees new outside ≡ outside_trees old outside
   pub rows_now : KeepsRows old new
   pub apart_now : KeepsApart old new
+  pub spelled_now : KeepsSpelled old new
+  pub inside : (outside : Outside) → TreesGood old outside [] → KeepsInside old new outside
   pub rest : KeepsUnreleased old new
   pub pages : (number : ℕ) → IsBankPage old.size number → number ≢ result → bank_page new number ≡ bank_page old number
   pub kept : IsOwn (forest_of old) space (at / 4096) found → new.machine.pages_taken ≡ old.machine.pages_taken
@@ -85,6 +87,8 @@ pub record PutsBytes (old new : Kernel) (space at : ℕ) (bytes : List ℕ) : Ty
   pub outside_now : (outside : Outside) → outside_trees new outside ≡ outside_trees old outside
   pub rows_now : KeepsRows old new
   pub apart_now : KeepsApart old new
+  pub spelled_now : KeepsSpelled old new
+  pub inside : (outside : Outside) → TreesGood old outside [] → KeepsInside old new outside
   pub rest : KeepsUnreleased old new
   pub pages : (number : ℕ) → IsBankPage old.size number
       → ((page : ℕ) (found : Mapping) → IsTouched at (length bytes) page → map_of (forest_of new).keys space page ≡ Some found → found.page ≢ number)
