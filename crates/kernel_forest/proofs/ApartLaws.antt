@@ -22,6 +22,7 @@ use Rattle.space_bank.specs.Changes.{with_count, page_counted, node_counted, key
 use Rattle.space_bank.proofs.EntryLaws.{set_cases}
 use Rattle.forest.specs.Objects.{Object, PageObject, Owner}
 use Rattle.kernel_forest.specs.Trees.{owner_of, forest_of, outside_trees, tree_in, page_tree, node_tree}
+use Rattle.kernel_forest.specs.Laws.{PageStaysApart, NodeStaysApart}
 use Rattle.kernel_forest.specs.Apart.{apart_entry, apart_bytes, Apart, apart_by, apart_of, KeepsApart, KeepsSpelled, KeepsInside}
 
 -- what belongs to a tree, and what is free, isn't seen
@@ -155,3 +156,41 @@ spelled-node_given kernel n within place some =
 pub inside_same : (old new : Kernel) (outside : Outside) → outside_trees new outside ≡ outside_trees old outside
     → ((page : ℕ) → IsSome ((forest_of new).owner (PageObject page)) → IsSome ((forest_of old).owner (PageObject page))) → KeepsInside old new outside
 inside_same old new outside same fewer none page some = ap (λ (out : Object → ℕ). out (PageObject page)) same ∙ none page (fewer page some)
+
+-- ---- what is told of one object
+
+-- an entry that is seen is the entry
+seen_is : {O : Type 0} (tree : O → Option Owner) (entry : Entry O) (owner : O) (count : ℕ) → apart_entry tree entry ≡ Taken owner count → entry ≡ Taken owner count
+seen_is tree (Free next) owner count e = let no : Free 0 ≡ Taken owner count = e in cc
+seen_is tree (Taken there shares) owner count e = shown (tree there) e
+  where
+    shown : (o : Option Owner) → (if is_some o then Free 0 else Taken there shares) ≡ Taken owner count → Taken there shares ≡ Taken owner count
+    shown None h = h
+    shown (Some x) h = let no : Free 0 ≡ Taken owner count = h in cc
+seen_is tree Fixed owner count e = let no : Fixed ≡ Taken owner count = e in cc
+seen_is tree Unspelled owner count e = let no : Unspelled ≡ Taken owner count = e in cc
+
+is_seen : {O : Type 0} (tree : O → Option Owner) (entry : Entry O) (owner : O) (count : ℕ) → tree owner ≡ None → entry ≡ Taken owner count → apart_entry tree entry ≡ Taken owner count
+is_seen tree entry owner count none e = ap (apart_entry tree) e ∙ rw none refl
+
+pub page_stays_apart : PageStaysApart
+unfolding apart_by
+page_stays_apart old new n owner count same none =
+    let seen = ap (λ (a : Apart). a.pages n) same in
+    let bytes = ap (λ (a : Apart). a.bytes n) same in (
+      (
+        λ was. seen_is page_tree (entry_at new.page_entries n) owner count (seen ∙ is_seen page_tree (entry_at old.page_entries n) owner count none was),
+        λ is. seen_is page_tree (entry_at old.page_entries n) owner count (sym seen ∙ is_seen page_tree (entry_at new.page_entries n) owner count none is),
+      ),
+      λ was.
+          let before = is_seen page_tree (entry_at old.page_entries n) owner count none was in
+          ap (λ e. apart_bytes e (get_or new.bank n [])) (sym (seen ∙ before)) ∙ bytes ∙ ap (λ e. apart_bytes e (get_or old.bank n [])) before,
+    )
+
+pub node_stays_apart : NodeStaysApart
+unfolding apart_by
+node_stays_apart old new n owner count same none =
+    let seen = ap (λ (a : Apart). a.nodes n) same in (
+      λ was. seen_is node_tree (entry_at new.node_entries n) owner count (seen ∙ is_seen node_tree (entry_at old.node_entries n) owner count none was),
+      λ is. seen_is node_tree (entry_at old.node_entries n) owner count (sym seen ∙ is_seen node_tree (entry_at new.node_entries n) owner count none is),
+    )
