@@ -55,6 +55,15 @@ none_of : {X : Type 0} (o : Option X) → (IsSome o → ⊥) → o ≡ None
 none_of None h = refl
 none_of (Some x) h = absurd (h refl)
 
+-- a space stays one where the root of another one is in hand
+pub root_in_hand : (forest : Forest) (space other : ℕ) → IsSpace forest [] other → other ≢ space → IsSpace forest (space_key space ∷ []) other
+root_in_hand forest space other is apart = record {
+  owned = is.owned;
+  unnamed = is.unnamed;
+  not_in_hand = no_name (space_key space) [] (NodeObject other) (not_named (space_key space) (NodeObject other)
+      (λ h. apart (let same : other ≡ space = cc in same))) ∙ is.not_in_hand;
+}
+
 pub call_drops_space : CallDropsSpace
 call_drops_space outside space old new held once release =
     let released = release_keeps_spaces old new outside (space_key space ∷ []) [] held release in
@@ -69,19 +78,11 @@ call_drops_space outside space old new held once release =
             let hand = nothing_in_hand (NodeObject space) in
             omega arith);
         others = record {
-          stay = λ other is apart. (released.1 other (in_hand_now other is apart)).0;
-          maps = λ other is apart. (released.1 other (in_hand_now other is apart)).1;
+          stay = λ other is apart. (released.1 other (root_in_hand old space other is apart)).0;
+          maps = λ other is apart. (released.1 other (root_in_hand old space other is apart)).1;
         };
         roots = λ other is.
             let r = released.2 other is in
             record { was = tail_space old (space_key space) [] other r.was; owner = r.owner; keeper = r.keeper };
       },
     )
-  where
-    in_hand_now : (other : ℕ) → IsSpace old [] other → other ≢ space → IsSpace old (space_key space ∷ []) other
-    in_hand_now other is apart = record {
-      owned = is.owned;
-      unnamed = is.unnamed;
-      not_in_hand = no_name (space_key space) [] (NodeObject other) (not_named (space_key space) (NodeObject other)
-          (λ h. apart (let same : other ≡ space = cc in same))) ∙ is.not_in_hand;
-    }

@@ -411,6 +411,11 @@ pub release_unnamed : (old new : Forest) (outside : Object → ℕ) (old_hand ne
     → (object : Object) → NobodyNames old.keys object → NobodyNames new.keys object
 release_unnamed old new outside old_hand new_hand held r object nobody = (release_keeps outside r held).unnamed object nobody
 
+-- the keys along each way of a space stay
+pub release_keys : (old new : Forest) (outside : Object → ℕ) (old_hand new_hand : List Key) → Counted old outside old_hand → Release old old_hand new new_hand
+    → (space : ℕ) → IsSpace old old_hand space → (way : List ℕ) → IsWay way → key_along new.keys (space_key space) way ≡ key_along old.keys (space_key space) way
+release_keys old new outside old_hand new_hand held r = (release_keeps outside r held).keys
+
 pub release_keeps_spaces : ReleaseKeepsSpaces
 release_keeps_spaces old new outside old_hand new_hand held r =
     let k = release_keeps outside r held.counts in

@@ -168,6 +168,13 @@ ReleaseGivesUnnamed =
     → (object : Object) → IsSome (old.owner object)
     → IsSome (new.owner object) ↔ (1 ≤ namings new object + outside object + in_hand new_hand object)
 
+-- And each way in a space that was its own stays so.
+abbrev pub ReleaseKeepsWays : Type 0
+ReleaseKeepsWays =
+    (old new : Forest) (outside : Object → ℕ) (old_hand new_hand : List Key) (space : ℕ) (way : List ℕ)
+    → Held old outside old_hand → Release old old_hand new new_hand → IsSpace old old_hand space
+    → IsWay way → OwnWay old space way → OwnWay new space way
+
 -- Releasing goes down: a key that is taken out of a node stands lower than the node's own key.
 abbrev pub ReleaseGoesDown : Type 0
 ReleaseGoesDown =

@@ -17,6 +17,10 @@ use Rattle.forest.specs.Forest.{Forest, Held, FitsUnder, FitsBelow}
 use Rattle.forest.specs.Changes.{with_key}
 use Rattle.forest.specs.Release.{take_out as take_out_step, Release, done, more}
 use Rattle.forest.proofs.ReleaseLaws.{release_keeps_spaces}
+use Rattle.forest.specs.Forest.{node_way}
+use Rattle.forest.proofs.CallLaws.{root_in_hand}
+use Rattle.forest.proofs.KeptWays.{release_keeps_ways}
+use Rattle.forest.proofs.OwnMaps.{way_of_node}
 use Rattle.kernel_forest.proofs.ApartLaws.{inside_same}
 use Rattle.kernel_forest.specs.Trees.{forest_of, outside_trees, IsTreeKey, TreesGood}
 use Rattle.kernel_forest.specs.Moves.{PutsKey}
@@ -350,6 +354,10 @@ drops_space kernel new space known good is_space known_trees lets = record {
   inside = λ outside. inside_same kernel new outside (lets.outside_now outside) (λ number some. lets.keeps.fewer (PageObject number) some);
   rest = lets.rest;
   keeps = lets.keeps;
+  ways = λ mine page is apart own.
+      let hand = root_hand kernel space known good is_space known_trees in
+      release_keeps_ways (forest_of kernel) (forest_of new) (outside_trees kernel known) (Segment space 5 ∷ []) [] mine (node_way page) hand.held (lets.lets known [] hand).1
+      (root_in_hand (forest_of kernel) space.0 mine is apart) (way_of_node page) own;
 }
   where
     no_hand : (object : Object) → in_hand [] object ≡ 0

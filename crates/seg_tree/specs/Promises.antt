@@ -15,7 +15,7 @@ use Rattle.kernel_forest.specs.Trees.{forest_of, outside_trees, TreesGood}
 use Rattle.kernel_forest.specs.Moves.{KeepsRest}
 use Rattle.kernel_forest.specs.Releases.{KeepsUnreleased, KeepsBytes}
 use Rattle.seg_tree.specs.declared.walk.Found.{Found}
-use Rattle.seg_tree.specs.Ways.{KeepsWays}
+use Rattle.seg_tree.specs.Ways.{KeepsWays, KeepsOtherWays}
 
 -- The map of a space has changed, and that of no other one. What names trees from outside, and the keys of all other nodes,
 -- are as before, and at most so many nodes were taken. No node below a root is empty where none was, and each way in any space
@@ -78,6 +78,7 @@ pub record Drops (old new : Kernel) (space : ℕ) : Type 0 where
   pub inside : (outside : Outside) → KeepsInside old new outside
   pub rest : KeepsUnreleased old new
   pub keeps : KeepsBytes old new
+  pub ways : KeepsOtherWays old new space
 
 -- the mapping that was found
 abbrev pub found_mapping : Option Found → Option Mapping
