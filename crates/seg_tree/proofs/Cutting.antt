@@ -24,6 +24,10 @@ use Rattle.forest.proofs.MapLaws.{page_no_node}
 use Rattle.forest.proofs.ReachLaws.{named_somewhere, NamedSomewhere, nowhere, somewhere, nothing_in_hand}
 use Rattle.forest.proofs.ReleaseLaws.{release_gives_unnamed, is_or_not}
 use Rattle.forest.proofs.PruneLaws.{prune_keeps_maps, taken_out, still_empty}
+use Rattle.forest.proofs.OwnMaps.{length-node_way, way_of_node}
+use Rattle.seg_tree.specs.Ways.{KeepsOtherWays}
+use Rattle.seg_tree.proofs.OwnWays.{counts_keep_way}
+use Rattle.seg_tree.proofs.Mapping.{space_leaf}
 use Rattle.kernel_forest.proofs.ApartLaws.{inside_same}
 use Rattle.kernel_forest.specs.Trees.{forest_of, outside_trees, IsTreeKey, TreesGood}
 use Rattle.kernel_forest.specs.Moves.{PutsKey}
@@ -38,7 +42,7 @@ use Rattle.seg_tree.proofs.Emptying.{unreleased_trans}
 use Rattle.seg_tree.proofs.Levels.{digits-pred, digits-way, digits-zero}
 use Rattle.seg_tree.proofs.Making.{filled_last}
 use Rattle.seg_tree.proofs.Mapping.{trees_nothing, node_way-digits}
-use Rattle.seg_tree.proofs.PruneWays.{off_stands, off_once, off_own, off_ends, off_but, KeepsNodes, leaf_release, nodes_own}
+use Rattle.seg_tree.proofs.PruneWays.{off_ways, off_stands, off_once, off_own, off_ends, off_but, KeepsNodes, leaf_release, nodes_own}
 
 segment_named : (key : Key) (node : NodeId) → named key ≡ Some (NodeObject node.0) → key ≡ Segment node (key_height key)
 segment_named (Segment n height) node h =
@@ -224,6 +228,11 @@ module _ (k0 : Kernel) (space levels number : ℕ) (some : levels ≢ 0) (known 
           (off_ends (forest_of k0) (outside_trees k0 known) space above node (number % 16) (digits (levels - 1) (number / 16)) trees.held is_space
           (digits-way (levels - 1) (number / 16)) (omega arith) own_parts ends_parts ends_above)
 
+      pub next_ways : KeepsOtherWays k0 k2 space
+      next_ways mine page is apart own_way = subst (λ f. OwnWay f mine (node_way page)) (sym off.forest_now)
+          (off_ways (forest_of k0) (outside_trees k0 known) space above node (number % 16) (digits (levels - 1) (number / 16)) trees.held is_space
+          (digits-way (levels - 1) (number / 16)) (omega arith) own_parts ends_parts ends_above mine is apart (node_way page) (way_of_node page) own_way)
+
       next_but : NoneEmptyBut (forest_of k0).keys node → NoneEmptyBut (forest_of k2).keys above
       next_but but = subst (λ (f : Forest). NoneEmptyBut f.keys above) (sym off.forest_now)
           (off_but (forest_of k0) (outside_trees k0 known) space above node (number % 16) (digits (levels - 1) (number / 16)) trees.held is_space
@@ -290,7 +299,20 @@ module _ (k0 k1 k2 : Kernel) (space page : ℕ) (was : Key) (put : PutsLeaf k0 k
   pub unmapped_ends : (n : ℕ) × EndsAt (forest_of k2).keys space (digits 4 (page / 16)) (NodeObject n)
   unmapped_ends = (put.node, unmapped_end)
 
-  module _ (k3 : Kernel) (pruned : Prunes k2 k3)
+  -- ways in other spaces, until a node is taken out
+  unmapped_ways : KeepsOtherWays k0 k2 space
+  unmapped_ways mine number is apart own =
+      let hand = put.hand known (null_trees known known_trees) in
+      let still = (after known known_trees).1.others.stay mine is apart in
+      let between : IsSpace (forest_of k1) [] mine = record {
+        owned = ap is_some (sym (keeps.owners mine)) ∙ still.owned;
+        unnamed = λ place h. still.unnamed place (ap (λ (keys : ℕ → Key). named (at keys place)) keeps.keys ∙ h);
+        not_in_hand = still.not_in_hand;
+      } in
+      counts_keep_way (forest_of k1) (forest_of k2) (was ∷ []) mine hand.held.sound hand.held.rooted (space_leaf (forest_of k1) [] was mine put.leaf between) keeps.keys keeps.counts
+      (node_way number) (way_of_node number) (let four = length-node_way number in omega arith) (put.ways mine number is own)
+
+  module _ (k3 : Kernel) (pruned : Prunes k2 k3) (pruned_ways : KeepsOtherWays k2 k3 space)
       (filled : (n : ℕ) → EndsAt (forest_of k2).keys space (digits 4 (page / 16)) (NodeObject n) → NoneEmptyBut (forest_of k2).keys n → NoneEmpty (forest_of k3).keys) where
     outside_same : (outside : Outside) → outside_trees k3 outside ≡ outside_trees k0 outside
     outside_same outside = pruned.outside_now outside ∙ lets.outside_now outside ∙ put.outside_now outside
@@ -360,6 +382,7 @@ module _ (k0 k1 k2 : Kernel) (space page : ℕ) (was : Key) (put : PutsLeaf k0 k
         most = let a = put.most in let b = pruned.fewer in omega arith;
       };
       given = given_back;
+      ways = λ mine number is apart own. pruned_ways mine number ((after known known_trees).1.others.stay mine is apart) apart (unmapped_ways mine number is apart own);
     }
       where
         bank_same : (old new : Kernel) (number : ℕ) → new.size ≡ old.size → new.bank ≡ old.bank → bank_page new number ≡ bank_page old number
