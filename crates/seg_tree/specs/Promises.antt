@@ -1,4 +1,5 @@
--- What calls on spaces promise, in the words of the tables. Each keeps what holds of trees, whatever is outside.
+-- What calls on spaces promise, in the words of the tables. Each keeps what holds of trees, whatever is outside. And each
+-- leaves whatever belongs to no tree as it is, a key at each place at which one was spelled, and pages of trees to keys of trees.
 use Rattle.std.specs.Prelude.{◌≡◌, ◌≤◌, ◌+◌, ◌↔◌, ℕ, Option, Some, None, IsSome, []}
 use Rattle.kn_base.specs.declared.key.Key.{Key}
 use Rattle.kernel_tables.specs.Kernel.{Kernel, IsBankPage, bank_page}
@@ -64,7 +65,7 @@ pub record Adds (old new : Kernel) (space : ℕ) (owner : Option Owner) (keeper 
   pub number : new.machine.nodes_taken ≡ old.machine.nodes_taken + 1
 
 -- A space whose one key was outside was released. What belonged to a tree was given back exactly where nothing names it any
--- more, and each page that wasn't has the bytes that it had.
+-- more, and each page that wasn't has the bytes that it had. Each way in any other space that was its own is so still.
 pub record Drops (old new : Kernel) (space : ℕ) : Type 0 where
   pub drops : (outside : Outside) → TreesGood old (and_outside outside (space_key space)) [] → TreesGood new outside [] × DropsSpace (forest_of old) (forest_of new) space
   pub given : (outside : Outside) → TreesGood old (and_outside outside (space_key space)) []

@@ -75,8 +75,8 @@ pub record TakesOne (old new : Kernel) (page : ℕ) (owner : PageOwner) : Type 0
 
 -- A page that may be written at a page number of a space was made its own: `result` is mapped there, with the bytes of the page
 -- before, and no other space and no other page number reaches it. Nothing has changed where the page was own, and else one page
--- was taken. All other pages have the bytes that they had. Each way in any space that was its own is so still, and no node was
--- taken where the way to the page was.
+-- was taken. All other pages have the bytes that they had, and whatever belongs to no tree is as it was. Each way in any space
+-- that was its own is so still, and no node was taken where the way to the page was.
 pub record Owns (old new : Kernel) (space page result : ℕ) (owner : PageOwner) : Type 0 where
   pub found : Mapping
   pub mapped : map_of (forest_of old).keys space page ≡ Some found

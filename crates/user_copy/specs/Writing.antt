@@ -17,7 +17,7 @@ use Rattle.user_copy.specs.SpaceMemory.{space_memory}
 use Rattle.seg_tree.specs.Writes.{writable_mapping}
 use Rattle.seg_tree.specs.Ways.{KeepsWays}
 
--- A page of a space was made its own, and may have become another page of the store.
+-- A page of a space was made its own, and may have become another page of the store. Spaces are the same, and keep their roots.
 pub record MakesOwn (old new : Forest) (space page result : ℕ) : Type 0 where
   pub spaces : (other : ℕ) → IsSpace old [] other ↔ IsSpace new [] other
   pub roots : (other : ℕ) → IsSpace new [] other → KeepsRoot old new [] other
@@ -75,7 +75,8 @@ pub record PutsPiece (old new : Kernel) (space at : ℕ) (bytes : List ℕ) : Ty
   pub most : new.machine.nodes_taken ≤ old.machine.nodes_taken + 4
 
 -- Bytes were put into a space, from an address on. The pages that they touch are own now, all other pages of the store have the
--- bytes that they had, what is mapped in the space is so still, and each way in any space that was its own.
+-- bytes that they had, what is mapped in the space is so still, and each way in any space that was its own. Spaces are the same,
+-- and keep their roots, and whatever belongs to no tree is as it was.
 pub record PutsBytes (old new : Kernel) (space at : ℕ) (bytes : List ℕ) : Type 0 where
   pub trees : (outside : Outside) → TreesGood old outside [] → TreesGood new outside []
   pub spaces : (other : ℕ) → IsSpace (forest_of old) [] other ↔ IsSpace (forest_of new) [] other
