@@ -1,8 +1,6 @@
 -- Ways that stay a space's own.
-use Rattle.std.proofs.Common.{◌≡◌, ◌≢◌, ◌≤◌, ◌<◌, ℕ, List, [], ◌∷◌, ap, sym, ◌∙◌, arith}
-use Rattle.std.specs.Option.{IsSome}
+use Rattle.std.proofs.Common.{◌≡◌, ◌≢◌, ℕ, List, [], ◌∷◌, ap, ◌∙◌, arith}
 use Rattle.kn_base.specs.declared.key.Key.{Key}
-use Rattle.unix_model.specs.Tables.{at}
 use Rattle.forest.specs.Objects.{Object, NodeObject, named}
 use Rattle.forest.specs.Walks.{place_of, key_along, space_key, IsWay}
 use Rattle.forest.specs.Forest.{Forest, Sound, IsSpace, OwnWay, EndsAt}
