@@ -1,7 +1,7 @@
 -- Empty nodes are taken out of a tree, from below upwards.
-use Rattle.std.proofs.Common.{◌≡◌, ◌≢◌, ◌<◌, ◌≤◌, ◌+◌, ◌-◌, ◌*◌, ◌/◌, ◌%◌, ◌↔◌, ◌==◌, ℕ, Some, None, [], ◌∷◌, refl, ap, sym, subst, ◌∙◌, arith, ⊎_elim}
+use Rattle.std.proofs.Common.{nat_lt, if◌then◌else◌, true, false, ◌^◌, ◌≡◌, ◌≢◌, ◌<◌, ◌≤◌, ◌+◌, ◌-◌, ◌*◌, ◌/◌, ◌%◌, ◌↔◌, ◌==◌, ℕ, Some, None, [], ◌∷◌, refl, ap, sym, subst, ◌∙◌, arith, ⊎_elim}
 use Rattle.std.specs.Option.{is_some, IsSome}
-use Rattle.std.proofs.lemmas.Bool.{cases_lt}
+use Rattle.std.proofs.lemmas.Bool.{cases_Bool, cases_lt}
 use Rattle.kn_base.specs.declared.key.Key.{Key}
 use Rattle.kn_base.specs.declared.key.Key.TheVariants.{Null, Page, Segment}
 use Rattle.kn_base.specs.declared.key.NodeId.{NodeId}
@@ -11,7 +11,7 @@ use Rattle.space_bank.specs.Bank.{BankGood, IsTakenOnce, node_given}
 use Rattle.space_bank.specs.Shares.{Outside, TakesNodeOutOfHand, node_places}
 use Rattle.unix_model.specs.Tables.{at, with_at}
 use Rattle.forest.specs.Objects.{Object, PageObject, NodeObject, named}
-use Rattle.forest.specs.Walks.{place_of, key_along, space_key, digits, map_of}
+use Rattle.forest.specs.Walks.{mapping_of, key_at_page, place_of, key_along, space_key, digits, map_of}
 use Rattle.forest.specs.Forest.{Forest, Held, Sound, IsSpace, EndsAt, OwnWay, NoneEmpty, NoneEmptyBut, key_height, namings, node_way}
 use Rattle.forest.specs.Changes.{with_given, KeepsRoot}
 use Rattle.forest.proofs.RootLaws.{root_trans}
@@ -22,10 +22,10 @@ use Rattle.forest.proofs.HeldLaws.{other_object}
 use Rattle.forest.proofs.OwnLaws.{owned_node, owned_object}
 use Rattle.forest.proofs.MapLaws.{page_no_node}
 use Rattle.forest.proofs.ReachLaws.{named_somewhere, NamedSomewhere, nowhere, somewhere, nothing_in_hand}
-use Rattle.forest.proofs.ReleaseLaws.{release_gives_unnamed, is_or_not}
+use Rattle.forest.proofs.ReleaseLaws.{some_not_none, release_gives_unnamed, is_or_not}
 use Rattle.forest.proofs.PruneLaws.{prune_keeps_maps, taken_out, still_empty}
-use Rattle.forest.proofs.OwnMaps.{length-node_way, way_of_node}
-use Rattle.seg_tree.specs.Ways.{KeepsOtherWays}
+use Rattle.forest.proofs.OwnMaps.{page_way-parts, length-node_way, way_of_node}
+use Rattle.seg_tree.specs.Ways.{HasOwnWay, KeepsOtherWays, KeepsMappedWays}
 use Rattle.seg_tree.proofs.OwnWays.{counts_keep_way}
 use Rattle.seg_tree.proofs.Mapping.{space_leaf}
 use Rattle.kernel_forest.proofs.ApartLaws.{inside_same}
@@ -42,7 +42,7 @@ use Rattle.seg_tree.proofs.Emptying.{unreleased_trans}
 use Rattle.seg_tree.proofs.Levels.{digits-pred, digits-way, digits-zero}
 use Rattle.seg_tree.proofs.Making.{filled_last}
 use Rattle.seg_tree.proofs.Mapping.{trees_nothing, node_way-digits}
-use Rattle.seg_tree.proofs.PruneWays.{off_ways, off_stands, off_once, off_own, off_ends, off_but, KeepsNodes, leaf_release, nodes_own}
+use Rattle.seg_tree.proofs.PruneWays.{off_ways, off_alive, off_stands, off_once, off_own, off_ends, off_but, KeepsNodes, leaf_release, nodes_own}
 
 segment_named : (key : Key) (node : NodeId) → named key ≡ Some (NodeObject node.0) → key ≡ Segment node (key_height key)
 segment_named (Segment n height) node h =
@@ -194,6 +194,16 @@ prunes_trans k0 k1 k2 first second = record {
   fewer = let a = first.fewer in let b = second.fewer in omega arith;
 }
 
+-- a key stands where something is mapped
+mapped_key_there : (keys : ℕ → Key) (space page : ℕ) → IsSome (map_of keys space page) → key_along keys (space_key space) (page % 16 ∷ node_way page) ≢ Null
+unfolding map_of
+mapped_key_there keys space page some null = ⊎_elim
+    (λ (t : nat_lt page (2 ^ 19) ≡ true).
+    let none : mapping_of (key_at_page keys space page) ≡ None = ap (λ way. mapping_of (key_along keys (space_key space) way)) (page_way-parts page) ∙ ap mapping_of null in
+    some_not_none (if nat_lt page (2 ^ 19) then mapping_of (key_at_page keys space page) else None) some (rw t none))
+    (λ (t : nat_lt page (2 ^ 19) ≡ false). some_not_none (if nat_lt page (2 ^ 19) then mapping_of (key_at_page keys space page) else None) some (rw t refl))
+    (cases_Bool (nat_lt page (2 ^ 19)))
+
 -- one level up
 module _ (k0 : Kernel) (space levels number : ℕ) (some : levels ≢ 0) (known : Outside) (trees : TreesGood k0 known []) (is_space : IsSpace (forest_of k0) [] space)
     (own : OwnWay (forest_of k0) space (digits levels number)) (node : ℕ) (ends : EndsAt (forest_of k0).keys space (digits levels number) (NodeObject node)) where
@@ -232,6 +242,13 @@ module _ (k0 : Kernel) (space levels number : ℕ) (some : levels ≢ 0) (known 
       next_ways mine page is apart own_way = subst (λ f. OwnWay f mine (node_way page)) (sym off.forest_now)
           (off_ways (forest_of k0) (outside_trees k0 known) space above node (number % 16) (digits (levels - 1) (number / 16)) trees.held is_space
           (digits-way (levels - 1) (number / 16)) (omega arith) own_parts ends_parts ends_above mine is apart (node_way page) (way_of_node page) own_way)
+
+      pub next_mapped_ways : ((d : ℕ) → d < 16 → at (forest_of k0).keys (place_of node d) ≡ Null)
+          → (page : ℕ) → IsSome (map_of (forest_of k0).keys space page) → HasOwnWay k0 space page → HasOwnWay k2 space page
+      next_mapped_ways nulls page mapped own_way = subst (λ f. OwnWay f space (node_way page)) (sym off.forest_now)
+          (off_alive (forest_of k0) (outside_trees k0 known) space above node (number % 16) (digits (levels - 1) (number / 16)) trees.held is_space
+          (digits-way (levels - 1) (number / 16)) (omega arith) own_parts ends_parts ends_above nulls (page % 16) (node_way page) (omega arith) (way_of_node page)
+          (mapped_key_there (forest_of k0).keys space page mapped) own_way)
 
       next_but : NoneEmptyBut (forest_of k0).keys node → NoneEmptyBut (forest_of k2).keys above
       next_but but = subst (λ (f : Forest). NoneEmptyBut f.keys above) (sym off.forest_now)
@@ -299,11 +316,10 @@ module _ (k0 k1 k2 : Kernel) (space page : ℕ) (was : Key) (put : PutsLeaf k0 k
   pub unmapped_ends : (n : ℕ) × EndsAt (forest_of k2).keys space (digits 4 (page / 16)) (NodeObject n)
   unmapped_ends = (put.node, unmapped_end)
 
-  -- ways in other spaces, until a node is taken out
-  unmapped_ways : KeepsOtherWays k0 k2 space
-  unmapped_ways mine number is apart own =
+  -- ways, until a node is taken out
+  unmapped_ways : (mine number : ℕ) → IsSpace (forest_of k0) [] mine → IsSpace (forest_of k2) [] mine → HasOwnWay k0 mine number → HasOwnWay k2 mine number
+  unmapped_ways mine number is still own =
       let hand = put.hand known (null_trees known known_trees) in
-      let still = (after known known_trees).1.others.stay mine is apart in
       let between : IsSpace (forest_of k1) [] mine = record {
         owned = ap is_some (sym (keeps.owners mine)) ∙ still.owned;
         unnamed = λ place h. still.unnamed place (ap (λ (keys : ℕ → Key). named (at keys place)) keeps.keys ∙ h);
@@ -312,7 +328,7 @@ module _ (k0 k1 k2 : Kernel) (space page : ℕ) (was : Key) (put : PutsLeaf k0 k
       counts_keep_way (forest_of k1) (forest_of k2) (was ∷ []) mine hand.held.sound hand.held.rooted (space_leaf (forest_of k1) [] was mine put.leaf between) keeps.keys keeps.counts
       (node_way number) (way_of_node number) (let four = length-node_way number in omega arith) (put.ways mine number is own)
 
-  module _ (k3 : Kernel) (pruned : Prunes k2 k3) (pruned_ways : KeepsOtherWays k2 k3 space)
+  module _ (k3 : Kernel) (pruned : Prunes k2 k3) (pruned_ways : KeepsOtherWays k2 k3 space) (pruned_mapped : KeepsMappedWays k2 k3 space)
       (filled : (n : ℕ) → EndsAt (forest_of k2).keys space (digits 4 (page / 16)) (NodeObject n) → NoneEmptyBut (forest_of k2).keys n → NoneEmpty (forest_of k3).keys) where
     outside_same : (outside : Outside) → outside_trees k3 outside ≡ outside_trees k0 outside
     outside_same outside = pruned.outside_now outside ∙ lets.outside_now outside ∙ put.outside_now outside
@@ -382,7 +398,10 @@ module _ (k0 k1 k2 : Kernel) (space page : ℕ) (was : Key) (put : PutsLeaf k0 k
         most = let a = put.most in let b = pruned.fewer in omega arith;
       };
       given = given_back;
-      ways = λ mine number is apart own. pruned_ways mine number ((after known known_trees).1.others.stay mine is apart) apart (unmapped_ways mine number is apart own);
+      ways = λ mine number is apart own.
+          let still = (after known known_trees).1.others.stay mine is apart in
+          pruned_ways mine number still apart (unmapped_ways mine number is still own);
+      mapped_ways = λ number mapped own. pruned_mapped number mapped (unmapped_ways space number is_space unmapped_space own);
     }
       where
         bank_same : (old new : Kernel) (number : ℕ) → new.size ≡ old.size → new.bank ≡ old.bank → bank_page new number ≡ bank_page old number

@@ -12,7 +12,7 @@ use Rattle.forest.specs.Changes.{with_key, with_given, KeepsRoot}
 use Rattle.kernel_forest.specs.Apart.{KeepsApart, KeepsSpelled}
 use Rattle.kernel_forest.specs.Trees.{forest_of, outside_trees, TreesGood}
 use Rattle.kernel_forest.specs.Releases.{KeepsUnreleased}
-use Rattle.seg_tree.specs.Ways.{KeepsOtherWays}
+use Rattle.seg_tree.specs.Ways.{KeepsOtherWays, KeepsMappedWays}
 use Rattle.seg_tree.specs.Promises.{Replaces}
 
 -- An empty node was taken from the one place that named it, and given back.
@@ -46,9 +46,11 @@ pub record Prunes (old new : Kernel) : Type 0 where
   pub fewer : new.machine.nodes_taken ≤ old.machine.nodes_taken
 
 -- Nothing is mapped at a page number of a space any more. What belonged to a tree was given back exactly where nothing names it
--- any more. Each way in any other space that was its own is so still.
+-- any more. Each way in any other space that was its own is so still, and in this space each to a page number that maps
+-- something.
 pub record Unmaps (old new : Kernel) (space page : ℕ) : Type 0 where
   pub replaces : Replaces old new space 4 (with_at (map_of (forest_of old).keys space) page None)
   pub given : (outside : Outside) → TreesGood old outside [] → (object : Object) → IsSome ((forest_of old).owner object)
       → IsSome ((forest_of new).owner object) ↔ (1 ≤ namings (forest_of new) object + outside_trees old outside object)
   pub ways : KeepsOtherWays old new space
+  pub mapped_ways : KeepsMappedWays old new space
