@@ -1,5 +1,5 @@
 -- The page at a page number is made a space's own: nothing changes where it was, and else a copy is put in its place.
-use Rattle.std.proofs.Common.{◌≡◌, ◌≢◌, ◌<◌, ◌≤◌, ◌+◌, ◌/◌, ◌%◌, ◌^◌, ◌==◌, ◌&&◌, not, ◌↔◌, ℕ, Bool, true, false, Option, Some, None, [], ◌∷◌, length, refl, ap, sym, subst, ◌∙◌, arith, ⊎_elim}
+use Rattle.std.proofs.Common.{inl, inr, ◌≡◌, ◌≢◌, ◌<◌, ◌≤◌, ◌+◌, ◌/◌, ◌%◌, ◌^◌, ◌==◌, ◌&&◌, not, ◌↔◌, ℕ, Bool, true, false, Option, Some, None, [], ◌∷◌, length, refl, ap, sym, subst, ◌∙◌, arith, ⊎_elim}
 use Rattle.std.specs.Option.{is_some, IsSome}
 use Rattle.std.proofs.lemmas.Bool.{cases_lt, cases_eq, ne_eqb, eq-eqb, eqb-true}
 use Rattle.kn_base.specs.declared.key.Key.{Key}
@@ -236,6 +236,7 @@ module _ (old mid : Kernel) (space page node found : ℕ) (to : Owner) (below : 
         spelled_now = d.spelled_now;
         inside = λ outside all. inside_same old mid outside (d.outside_now outside) (λ number some. ap is_some (sym (made_pages d.made number)) ∙ some);
         rest = unreleased old mid d.rest;
+        told = inl (own_before old mid space page node found to below is_space owner mapped known trees d good page_owner real single);
         kept = λ own. (refl, d.same (unchanged old mid space page node found to below is_space owner mapped known trees d own).0);
         copied = λ no. absurd (no (own_before old mid space page node found to below is_space owner mapped known trees d good page_owner real single));
         ways = ways_mid old mid space page node found to below is_space owner mapped known trees d;
@@ -346,6 +347,7 @@ module _ (old mid : Kernel) (space page node found : ℕ) (to : Owner) (below : 
               ∙ none number (ap is_some (sym (made_pages d.made number)) ∙ ap is_some (sym still) ∙ ap (λ (f : Forest). is_some (f.owner (PageObject number))) (sym c.takes.forest_now) ∙ some))
               (is_or_not (PageObject number) (PageObject fresh));
           rest = unreleased_trans old mid new (unreleased old mid d.rest) c.takes.rest;
+          told = inr (λ own. let one = own_single old mid space page node found to below is_space owner mapped known trees d own in not_single one.0 one.1);
           kept = λ own.
               let one = own_single old mid space page node found to below is_space owner mapped known trees d own in
               absurd (not_single one.0 one.1);

@@ -1,5 +1,5 @@
 -- A page that may be written at a page number of a space is made its own.
-use Rattle.std.specs.Prelude.{◌≡◌, ◌≢◌, ◌≤◌, ◌+◌, ◌-◌, ◌↔◌, ℕ, Bool, true, false, Option, Some, None, List, [], ◌∷◌}
+use Rattle.std.specs.Prelude.{◌⊎◌, ◌≡◌, ◌≢◌, ◌≤◌, ◌+◌, ◌-◌, ◌↔◌, ℕ, Bool, true, false, Option, Some, None, List, [], ◌∷◌}
 use Rattle.kn_base.specs.declared.key.Key.{Key}
 use Rattle.kn_base.specs.declared.key.Key.TheVariants.{Page}
 use Rattle.kernel_tables.specs.declared.entry.PageOwner.{PageOwner}
@@ -95,6 +95,7 @@ pub record Owns (old new : Kernel) (space page result : ℕ) (owner : PageOwner)
   pub spelled_now : KeepsSpelled old new
   pub inside : (outside : Outside) → TreesGood old outside [] → KeepsInside old new outside
   pub rest : KeepsUnreleased old new
+  pub told : IsOwn (forest_of old) space page found ⊎ (IsOwn (forest_of old) space page found → ⊥)
   pub kept : IsOwn (forest_of old) space page found → (result ≡ found.page) × (new ≡ old)
   pub copied : (IsOwn (forest_of old) space page found → ⊥) → TakesOne old new result owner
   pub ways : KeepsWays old new

@@ -165,6 +165,7 @@ module _ (k0 k1 : Kernel) (space address result : ℕ) (owner : PageOwner) (byte
     inside = owns.inside;
     rest = rest_now;
     pages = bytes_there;
+    told = owns.told;
     kept = λ own. ap (λ (k : Kernel). k.machine.pages_taken) (owns.kept own).1;
     copied = λ shared. (owns.copied shared).number;
     ways = owns.ways;

@@ -1,5 +1,5 @@
 -- Bytes are put into a space: its memory changes as flat memory does, and every other space's memory is as before.
-use Rattle.std.specs.Prelude.{◌≡◌, ◌≢◌, ◌<◌, ◌≤◌, ◌+◌, ◌*◌, ◌/◌, ◌%◌, ◌==◌, ◌↔◌, if◌then◌else◌, ℕ, zero, suc, Some, IsSome, List, [], length}
+use Rattle.std.specs.Prelude.{◌⊎◌, ◌≡◌, ◌≢◌, ◌<◌, ◌≤◌, ◌+◌, ◌*◌, ◌/◌, ◌%◌, ◌==◌, ◌↔◌, if◌then◌else◌, ℕ, zero, suc, Some, IsSome, List, [], length}
 use Rattle.kernel_tables.specs.Kernel.{Kernel, IsBankPage, bank_page}
 use Rattle.kernel_tables.specs.Rows.{KeepsRows}
 use Rattle.space_bank.specs.Shares.{Outside}
@@ -69,6 +69,7 @@ pub record PutsPiece (old new : Kernel) (space at : ℕ) (bytes : List ℕ) : Ty
   pub inside : (outside : Outside) → TreesGood old outside [] → KeepsInside old new outside
   pub rest : KeepsUnreleased old new
   pub pages : (number : ℕ) → IsBankPage old.size number → number ≢ result → bank_page new number ≡ bank_page old number
+  pub told : IsOwn (forest_of old) space (at / 4096) found ⊎ (IsOwn (forest_of old) space (at / 4096) found → ⊥)
   pub kept : IsOwn (forest_of old) space (at / 4096) found → new.machine.pages_taken ≡ old.machine.pages_taken
   pub copied : (IsOwn (forest_of old) space (at / 4096) found → ⊥) → new.machine.pages_taken ≡ old.machine.pages_taken + 1
   pub ways : KeepsWays old new
@@ -94,6 +95,7 @@ pub record PutsBytes (old new : Kernel) (space at : ℕ) (bytes : List ℕ) : Ty
   pub pages : (number : ℕ) → IsBankPage old.size number
       → ((page : ℕ) (found : Mapping) → IsTouched at (length bytes) page → map_of (forest_of new).keys space page ≡ Some found → found.page ≢ number)
       → bank_page new number ≡ bank_page old number
+  pub counted : (taken : ℕ) × NotOwn (forest_of old) space (at / 4096) (pages_touched at (length bytes)) taken
   pub taken : (taken : ℕ) → NotOwn (forest_of old) space (at / 4096) (pages_touched at (length bytes)) taken
       → new.machine.pages_taken ≡ old.machine.pages_taken + taken
   pub mapped : (page : ℕ) → IsSome (map_of (forest_of old).keys space page) → IsSome (map_of (forest_of new).keys space page)
