@@ -1,5 +1,5 @@
 -- Bytes that are put into one page, or into two.
-use Rattle.std.proofs.Common.{◌≡◌, ◌≢◌, ◌<◌, ◌≤◌, ◌+◌, ◌-◌, ◌*◌, ◌/◌, ◌%◌, ◌^◌, ℕ, true, Option, Some, None, List, [], ◌∷◌, ◌++◌, length, take, drop, length-drop, refl, ap, sym, subst, ◌∙◌, arith, ⊎_elim, add-zero, length-append}
+use Rattle.std.proofs.Common.{inl, inr, ◌⊎◌, ◌≡◌, ◌≢◌, ◌<◌, ◌≤◌, ◌+◌, ◌-◌, ◌*◌, ◌/◌, ◌%◌, ◌^◌, ℕ, true, Option, Some, None, List, [], ◌∷◌, ◌++◌, length, take, drop, length-drop, refl, ap, sym, subst, ◌∙◌, arith, ⊎_elim, add-zero, length-append}
 use Rattle.std.specs.Option.{is_some, IsSome}
 use Rattle.std.proofs.lemmas.List.{length-take-le, take_all, take-append-drop}
 use Rattle.kn_base.proofs.RowLaws.{length-part_at}
@@ -10,6 +10,7 @@ use Rattle.unix_model.specs.Memory.{Memory, Page, with_bytes, is_writable, all_w
 use Rattle.forest.specs.Walks.{Mapping, map_of}
 use Rattle.forest.specs.Forest.{Forest, IsSpace, Sound}
 use Rattle.forest.specs.Calls.{IsOwn}
+use Rattle.forest.proofs.RootLaws.{root_trans}
 use Rattle.kernel_forest.specs.Trees.{forest_of}
 use Rattle.seg_tree.proofs.Emptying.{unreleased_trans}
 use Rattle.user_copy.specs.SpaceMemory.{page_of, space_memory}
@@ -115,6 +116,21 @@ module _ (forest : Forest) (space page pages size : ℕ) (found next : Mapping) 
 
 -- ---- how many pages are taken
 
+-- a page that is own, or isn't, is counted
+told_counted : (forest : Forest) (space first page before : ℕ) (found : Mapping) → map_of forest.keys space page ≡ Some found
+    → IsOwnInTurn forest space first page found ⊎ (IsOwnInTurn forest space first page found → ⊥) → (taken : ℕ) × CountsPage forest space first page before taken
+told_counted forest space first page before found mapped told = ⊎_elim
+    (λ (turn : IsOwnInTurn forest space first page found). (before, is_own found turn refl))
+    (λ (shared : IsOwnInTurn forest space first page found → ⊥). (before + 1, is_other found mapped shared refl))
+    told
+
+told_turn : (forest : Forest) (space page : ℕ) (found : Mapping) → IsOwn forest space page found ⊎ (IsOwn forest space page found → ⊥)
+    → IsOwnInTurn forest space page page found ⊎ (IsOwnInTurn forest space page page found → ⊥)
+told_turn forest space page found told = ⊎_elim
+    (λ (own : IsOwn forest space page found). inl (own_turn forest space page found own))
+    (λ (shared : IsOwn forest space page found → ⊥). inr (λ (turn : IsOwnInTurn forest space page page found). shared (turn_own forest space page found turn)))
+    told
+
 one_taken : (forest : Forest) (space first page before taken pages pages_now : ℕ) (found : Mapping) → map_of forest.keys space page ≡ Some found
     → (IsOwnInTurn forest space first page found → pages_now ≡ pages) → ((IsOwnInTurn forest space first page found → ⊥) → pages_now ≡ pages + 1)
     → CountsPage forest space first page before taken → pages_now + before ≡ pages + taken
@@ -146,14 +162,19 @@ nothing_put kernel space address (byte ∷ bytes) none = absurd (omega arith)
 nothing_put kernel space address [] none = record {
   trees = λ outside was. was;
   spaces = λ other. (λ was. was, λ was. was);
+  roots = λ other is. record { was = is; owner = refl; keeper = refl };
   here = refl;
   others = λ other was apart. refl;
   own = λ page touched. absurd (let some : 0 < 0 = touched.0 in omega arith);
   filled = λ was. was;
   outside_now = λ outside. refl;
   rows_now = λ mine apart. refl;
+  apart_now = refl;
+  spelled_now = λ place some. some;
+  inside = λ outside was within. within;
   rest = refl;
   pages = λ number page off. refl;
+  counted = (0, refl);
   taken = λ taken counts. let zero_taken : taken ≡ 0 = counts in omega arith;
   mapped = λ page some. some;
   ways = λ mine page still own. own;
@@ -168,6 +189,7 @@ module _ (k0 k1 : Kernel) (space address : ℕ) (bytes : List ℕ) (is : IsSpace
   one_piece = record {
     trees = piece.trees;
     spaces = piece.owns.spaces;
+    roots = piece.owns.roots;
     here = piece.here;
     others = piece.others;
     own = λ page touched.
@@ -178,9 +200,15 @@ module _ (k0 k1 : Kernel) (space address : ℕ) (bytes : List ℕ) (is : IsSpace
     filled = piece.filled;
     outside_now = piece.outside_now;
     rows_now = piece.rows_now;
+    apart_now = piece.apart_now;
+    spelled_now = piece.spelled_now;
+    inside = piece.inside;
     rest = piece.rest;
     pages = λ number page off. piece.pages number page (λ e.
         off (address / 4096) (writable_mapping piece.result) (some, omega arith, omega arith) (map_here (forest_of k0) (forest_of k1) space (address / 4096) piece.result is piece.owns) (sym e));
+    counted =
+        let one = told_counted (forest_of k0) space (address / 4096) (address / 4096) 0 piece.found piece.mapped (told_turn (forest_of k0) space (address / 4096) piece.found piece.told) in
+        (one.0, subst (λ n. NotOwn (forest_of k0) space (address / 4096) n one.0) (sym (touched_one address (length bytes) some inside)) (count_one (forest_of k0) space (address / 4096) one.0 one.1));
     taken = λ taken counts.
         let all = one_taken (forest_of k0) space (address / 4096) (address / 4096) 0 taken k0.machine.pages_taken k1.machine.pages_taken piece.found piece.mapped
         (λ turn. piece.kept (turn_own (forest_of k0) space (address / 4096) piece.found turn))
@@ -234,19 +262,36 @@ module _ (k0 k1 k2 : Kernel) (space address next : ℕ) (first rest : List ℕ) 
       (b.result, subst (λ q. IsOwn (forest_of k2) space q (writable_mapping b.result)) last second.own))
       (cases_eq (address / 4096) p)
 
+  second_told : IsOwnInTurn (forest_of k0) space (address / 4096) (address / 4096 + 1) b.found ⊎ (IsOwnInTurn (forest_of k0) space (address / 4096) (address / 4096 + 1) b.found → ⊥)
+  second_told = ⊎_elim
+      (λ (own : IsOwn (forest_of k1) space (next / 4096) b.found).
+      inl (own_in_turn (forest_of k0) (forest_of k1) space (address / 4096) a.result is a.owns b.found (subst (λ p. IsOwn (forest_of k1) space p b.found) next_page own)))
+      (λ (shared : IsOwn (forest_of k1) space (next / 4096) b.found → ⊥).
+      inr (λ (turn : IsOwnInTurn (forest_of k0) space (address / 4096) (address / 4096 + 1) b.found).
+      shared (subst (λ p. IsOwn (forest_of k1) space p b.found) (sym next_page) (own_now (forest_of k0) (forest_of k1) space (address / 4096) a.result is a.owns b.found turn))))
+      b.told
+
+  second_mapped : map_of (forest_of k0).keys space (address / 4096 + 1) ≡ Some b.found
+  second_mapped =
+      sym (map_there (forest_of k0) (forest_of k1) space (address / 4096) a.result is a.owns (address / 4096 + 1) (λ e. absurd (omega arith)))
+      ∙ ap (map_of (forest_of k1).keys space) (sym next_page) ∙ b.mapped
+
+  both_counted : (taken : ℕ) × NotOwn (forest_of k0) space (address / 4096) 2 taken
+  both_counted =
+      let one = told_counted (forest_of k0) space (address / 4096) (address / 4096) 0 a.found a.mapped (told_turn (forest_of k0) space (address / 4096) a.found a.told) in
+      let two = told_counted (forest_of k0) space (address / 4096) (address / 4096 + 1) one.0 b.found second_mapped second_told in
+      (two.0, count_two (forest_of k0) space (address / 4096) one.0 two.0 one.1 two.1)
+
   pages_taken_now : (taken : ℕ) → NotOwn (forest_of k0) space (address / 4096) 2 taken → k2.machine.pages_taken ≡ k0.machine.pages_taken + taken
   pages_taken_now taken counts =
       let both = two_counted (forest_of k0) space (address / 4096) taken counts in
-      let mapped : map_of (forest_of k0).keys space (address / 4096 + 1) ≡ Some b.found =
-      sym (map_there (forest_of k0) (forest_of k1) space (address / 4096) a.result is a.owns (address / 4096 + 1) (λ e. absurd (omega arith)))
-      ∙ ap (map_of (forest_of k1).keys space) (sym next_page) ∙ b.mapped in
       let one : k1.machine.pages_taken + 0 ≡ k0.machine.pages_taken + both.0
       = one_taken (forest_of k0) space (address / 4096) (address / 4096) 0 both.0 k0.machine.pages_taken k1.machine.pages_taken a.found a.mapped
       (λ turn. a.kept (turn_own (forest_of k0) space (address / 4096) a.found turn))
       (λ shared. a.copied (λ own. shared (own_turn (forest_of k0) space (address / 4096) a.found own)))
       both.1 in
       let two : k2.machine.pages_taken + both.0 ≡ k1.machine.pages_taken + taken
-      = one_taken (forest_of k0) space (address / 4096) (address / 4096 + 1) both.0 taken k1.machine.pages_taken k2.machine.pages_taken b.found mapped
+      = one_taken (forest_of k0) space (address / 4096) (address / 4096 + 1) both.0 taken k1.machine.pages_taken k2.machine.pages_taken b.found second_mapped
       (λ turn. b.kept (subst (λ p. IsOwn (forest_of k1) space p b.found) (sym next_page) (own_now (forest_of k0) (forest_of k1) space (address / 4096) a.result is a.owns b.found turn)))
       (λ shared. b.copied (λ own. shared (own_in_turn (forest_of k0) (forest_of k1) space (address / 4096) a.result is a.owns b.found
       (subst (λ p. IsOwn (forest_of k1) space p b.found) next_page own))))
@@ -257,17 +302,28 @@ module _ (k0 k1 k2 : Kernel) (space address next : ℕ) (first rest : List ℕ) 
   two_pieces = record {
     trees = λ outside was. b.trees outside (a.trees outside was);
     spaces = λ other. (λ was. (b.owns.spaces other).0 ((a.owns.spaces other).0 was), λ now. (a.owns.spaces other).1 ((b.owns.spaces other).1 now));
+    roots = λ other now.
+        let last = b.owns.roots other now in
+        root_trans (forest_of k0) (forest_of k1) (forest_of k2) [] [] other (a.owns.roots other last.was) last;
     here = memory_here;
     others = λ other was apart. b.others other ((a.owns.spaces other).0 was) apart ∙ a.others other was apart;
     own = λ p touched. own_pages p touched.1 touched.2;
     filled = λ was. b.filled (a.filled was);
     outside_now = λ outside. b.outside_now outside ∙ a.outside_now outside;
     rows_now = λ mine apart. b.rows_now mine apart ∙ a.rows_now mine apart;
+    apart_now = b.apart_now ∙ a.apart_now;
+    spelled_now = λ place some. b.spelled_now place (a.spelled_now place some);
+    inside = λ outside was within. b.inside outside (a.trees outside was) (a.inside outside was within);
     rest = unreleased_trans k0 k1 k2 a.rest b.rest;
     pages = λ number p off.
         b.pages number (subst (λ s. IsBankPage s number) (sym sizes) p) (λ e.
         off (address / 4096 + 1) (writable_mapping b.result) (omega (arith, length-append first rest), omega arith, omega (arith, length-append first rest)) (map_here (forest_of k1) (forest_of k2) space (address / 4096 + 1) b.result is_now second) (sym e))
         ∙ a.pages number p (λ e. off (address / 4096) (writable_mapping a.result) (omega (arith, length-append first rest), omega arith, omega (arith, length-append first rest)) first_now (sym e));
+    counted = (
+      both_counted.0,
+      subst (λ n. NotOwn (forest_of k0) space (address / 4096) n both_counted.0)
+          (sym (ap (pages_touched address) (length-append first rest) ∙ touched_two address (length first + length rest) few (omega arith))) both_counted.1,
+    );
     taken = λ taken counts.
         pages_taken_now taken (subst (λ n. NotOwn (forest_of k0) space (address / 4096) n taken)
         (ap (pages_touched address) (length-append first rest) ∙ touched_two address (length first + length rest) few (omega arith)) counts);
