@@ -1,7 +1,9 @@
 pub mod RowLaws
+pub mod Fits
 pub mod DomainLaws
 pub mod FieldLaws
 pub mod WordLaws
+pub mod WordRows
 pub mod Writing
 pub mod Handing
 pub mod BlockSets

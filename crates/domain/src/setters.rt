@@ -4,12 +4,13 @@ pub mod buffer;
 pub mod space;
 pub mod words;
 
-ghost use Rattle.std.specs.Prelude.{◌≡◌, ℕ, ◌<◌, ◌≤◌, ◌+◌, true, [], ◌∷◌, length};
+ghost use Rattle.std.specs.Prelude.{◌≡◌, ℕ, ◌<◌, ◌≤◌, ◌+◌, true, [], ◌∷◌, length, slice_index};
 ghost use Rattle.kn_base.specs.Memory.{Memory};
 ghost use Rattle.kernel_tables.specs.Kernel.{Kernel, kernel_of};
 ghost use Rattle.kernel_tables.specs.Rows.{domain_rows};
 ghost use Rattle.kernel_tables.specs.Blocks.{key_block, ChangesBlocks};
 ghost use Rattle.space_bank.specs.Bank.{BankGood};
+ghost use Rattle.unix_model.specs.Rules.{IsBreak};
 ghost use Rattle.unix_model.specs.Tables.{at, with_at};
 ghost use Rattle.domain.specs.Keys.{is_number, word_in, words_in};
 ghost use Rattle.domain.specs.Rules.{RowsGood, NumberFits, written};
@@ -100,6 +101,8 @@ pub fn set_mark_words<T: Store>(store: &mut T, root: NodeId, words: [u32; 3])
     requires good { BankGood (kernel_of (T.memory store.old)) }
     requires rows { RowsGood (domain_rows (kernel_of (T.memory store.old))) }
     requires live { (at (domains (kernel_of (T.memory store.old))) root.0).live ≡ true }
+    requires parked { slice_index words 0 < 2 }
+    requires unused { slice_index words 2 ≡ 0 }
     ensures set { let old = domains (kernel_of (T.memory store.old)) in domains (kernel_of (T.memory store.new)) ≡ with_at old root.0 (record (at old root.0) { marks = words }) }
     ensures lives { lives (kernel_of (T.memory store.new)) ≡ lives (kernel_of (T.memory store.old)) }
     ensures others { WritesNumbers (kernel_of (T.memory store.old)) (kernel_of (T.memory store.new)) }
@@ -112,11 +115,13 @@ pub fn set_mark_words<T: Store>(store: &mut T, root: NodeId, words: [u32; 3])
     put_number(store, root, 12, key);
 }
 
-/// Sets the process's own id and its parent's, its break, and the word that a wait for it answers.
+/// Sets the process's own id and its parent's, its break, and the word that a wait for it answers. The break starts at a page,
+/// and lies between its start and `0x7FFE_0000`.
 pub fn set_heads<T: Store>(store: &mut T, root: NodeId, heads: Heads)
     requires good { BankGood (kernel_of (T.memory store.old)) }
     requires rows { RowsGood (domain_rows (kernel_of (T.memory store.old))) }
     requires live { (at (domains (kernel_of (T.memory store.old))) root.0).live ≡ true }
+    requires in_bounds { IsBreak heads.break_start heads.break_end }
     ensures set { let old = domains (kernel_of (T.memory store.old)) in domains (kernel_of (T.memory store.new)) ≡ with_at old root.0 (with_heads (at old root.0) heads) }
     ensures lives { lives (kernel_of (T.memory store.new)) ≡ lives (kernel_of (T.memory store.old)) }
     ensures others { WritesNumbers (kernel_of (T.memory store.old)) (kernel_of (T.memory store.new)) }

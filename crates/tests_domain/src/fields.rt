@@ -1,11 +1,13 @@
 //! The fields of a domain, over a store in memory.
 
-ghost use Rattle.std.specs.Prelude.{◌≡◌, ℕ, true, IfOk};
+ghost use Rattle.std.specs.Prelude.{◌≡◌, ◌%◌, ℕ, true, IfOk};
 ghost use Rattle.kn_base.specs.Memory.{Memory};
 ghost use Rattle.kernel_tables.specs.Kernel.{Kernel, kernel_of, first_page, node_count};
 ghost use Rattle.kernel_tables.specs.Rows.{domain_rows};
 ghost use Rattle.obj_store.specs.Store.{ram_memory};
 ghost use Rattle.space_bank.specs.Bank.{BankGood};
+ghost use Rattle.unix_model.specs.Execution.{register_word};
+ghost use Rattle.unix_model.specs.Rules.{IsBreak};
 ghost use Rattle.unix_model.specs.Tables.{at};
 ghost use Rattle.domain.specs.Rules.{RowsGood};
 ghost use Rattle.domain.specs.Domains.{domains};
@@ -80,12 +82,30 @@ fn its_words_are_zero(rt: HostRuntime) -> Result<(), Fail> {
 }
 
 // Registers of which each is told from the others.
-fn some_regs() -> Regs {
+fn some_regs() -> Regs
+    ensures zero { register_word result 0 ≡ 0 }
+    ensures aligned { result.pc % 4 ≡ 0 }
+{
     let mut x = [0; 32];
     for n in 0..32u32 {
         x[n as usize] = 0x0101_0000 + n;
     }
+    x[0] = 0;
     Regs { x, pc: 0x8000_0004 }
+}
+
+// Heads of which each is told from the others.
+#[tactic(auto, unfolding(unix_model::specs::Limits::loads_end))]
+fn some_heads() -> Heads
+    ensures { IsBreak result.break_start result.break_end }
+{
+    Heads {
+        pid: 3,
+        parent: 1,
+        break_start: 0x2000,
+        break_end: 0x2abc,
+        word: 0xdead_beef,
+    }
 }
 
 #[test]
@@ -101,13 +121,7 @@ fn another_space_is_read_back(rt: HostRuntime) -> Result<(), Fail> {
 #[test]
 fn each_field_is_read_back_beside_all_others(rt: HostRuntime) -> Result<(), Fail> {
     let Made { mut store, root } = machine_with_domain(rt.alloc())?;
-    let heads = Heads {
-        pid: 3,
-        parent: 1,
-        break_start: 0x2000,
-        break_end: 0x2abc,
-        word: 0xdead_beef,
-    };
+    let heads = some_heads();
     let request = Request {
         call: 25,
         args: [11, 12, 13, 14],

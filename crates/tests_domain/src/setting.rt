@@ -1,10 +1,12 @@
 //! Calls on a domain, one after the other, each proved from what the one before it promises.
 
-ghost use Rattle.std.specs.Prelude.{◌≡◌, ◌≤◌, ℕ, true};
+ghost use Rattle.std.specs.Prelude.{◌≡◌, ◌≤◌, ◌%◌, ℕ, true};
 ghost use Rattle.kn_base.specs.Memory.{Memory};
 ghost use Rattle.kernel_tables.specs.Kernel.{Kernel, kernel_of};
 ghost use Rattle.kernel_tables.specs.Rows.{domain_rows};
 ghost use Rattle.space_bank.specs.Bank.{BankGood};
+ghost use Rattle.unix_model.specs.Execution.{register_word};
+ghost use Rattle.unix_model.specs.Rules.{IsBreak};
 ghost use Rattle.unix_model.specs.Tables.{at, with_at};
 ghost use Rattle.domain.specs.declared.types.Phase.TheVariants.{Done, Sent};
 ghost use Rattle.domain.specs.declared.types.State.TheVariants.{Waiting};
@@ -77,6 +79,9 @@ pub fn set_all<T: Store>(
     requires whole { (at (domains (kernel_of (T.memory store.old))) root.0).whole ≡ true }
     requires length { request.length ≤ 4096 }
     requires answer { answer.length ≤ 4096 }
+    requires in_bounds { IsBreak heads.break_start heads.break_end }
+    requires zero { register_word regs.now 0 ≡ 0 }
+    requires aligned { regs.now.pc % 4 ≡ 0 }
     ensures live { (at (domains (kernel_of (T.memory store.new))) root.0).live ≡ true }
     ensures whole { (at (domains (kernel_of (T.memory store.new))) root.0).whole ≡ true }
     ensures rows { RowsGood (domain_rows (kernel_of (T.memory store.new))) }

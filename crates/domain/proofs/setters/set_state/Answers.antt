@@ -1,18 +1,15 @@
-use Rattle.std.proofs.Common.{◌∙◌, ap, arith}
+use Rattle.std.proofs.Common.{◌∙◌, ap}
 use Rattle.kernel_tables.specs.Kernel.{kernel_of}
 use Rattle.kernel_tables.specs.Rows.{domain_rows, fixed_rows}
-use Rattle.domain.specs.Domains.{domain_at, lives_by, state_by}
+use Rattle.domain.specs.Domains.{domain_at, lives_by, state_by, state_number}
 use Rattle.domain.specs.Rules.{written}
 use Rattle.domain.proofs.DomainLaws.{live_meter, life_set, life_is_apart}
+use Rattle.domain.proofs.Fits.{life_fits, state_low}
 use Rattle.domain.proofs.setters.set_state.Goals as goal
 
 pub put_number-requires-clause-fits : goal.put_number-requires-clause-fits
-put_number-requires-clause-fits g c = record {
-  number = c.counted_of-key.ensures.number;
-  call_fits = λ e. absurd (omega arith);
-  request_fits = λ e. absurd (omega arith);
-  answer_fits = λ e. absurd (omega arith);
-}
+put_number-requires-clause-fits g c =
+    life_fits c.counted_of-key.result (state_number c.args.state) (state_low c.args.state) c.counted_of-key.ensures.number (c.counted_of-key.ensures.word ∙ c.state_number.ensures.number)
 
 pub returns-clause-set : goal.returns-clause-set
 returns-clause-set g c =
