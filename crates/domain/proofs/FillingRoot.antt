@@ -10,7 +10,7 @@ use Rattle.space_bank.specs.Shares.{Outside}
 use Rattle.kernel_forest.specs.Moves.{PutsRow}
 use Rattle.unix_model.specs.Tables.{with_at}
 use Rattle.domain.specs.declared.types.State.TheVariants.{Running}
-use Rattle.domain.specs.Keys.{is_number, word_in, count_in, key_of_space}
+use Rattle.domain.specs.Keys.{word_in, count_in, key_of_space}
 use Rattle.domain.specs.Domains.{Life, life_in, state_by}
 use Rattle.domain.specs.Rules.{NumberFits}
 use Rattle.domain.specs.Life.{Fills, FillsRoot, with_zeros, null_row, root_row}

@@ -1,5 +1,5 @@
 -- Numbers that may stand at a place of a root.
-use Rattle.std.proofs.Common.{◌≡◌, ◌<◌, ◌≤◌, ℕ, true, [], ◌∷◌, sym, subst, arith}
+use Rattle.std.proofs.Common.{◌≡◌, ◌<◌, ◌≤◌, ℕ, true, refl, sym, subst, arith}
 use Rattle.kn_base.specs.declared.key.Key.{Key}
 use Rattle.unix_model.specs.Rules.{IsBreak}
 use Rattle.domain.specs.declared.types.Phase.{Phase}
@@ -36,11 +36,12 @@ life_fits key state low number first = record {
   unused = λ e. absurd (omega arith);
 }
 
-pub phase_fits : (key : Key) (phase : Phase) → is_number key ≡ true → word_in key 2 ≡ phase_number phase → NumberFits 7 key
-phase_fits key phase number third = record {
+-- the number of a phase is below 6
+pub ids_low : (key : Key) → is_number key ≡ true → word_in key 2 < 6 → NumberFits 7 key
+ids_low key number low = record {
   number = number;
   state = λ e. absurd (omega arith);
-  phase = λ e. subst (λ n. n < 6) (sym third) (phase_low phase);
+  phase = λ e. low;
   break = λ e. absurd (omega arith);
   call = λ e. absurd (omega arith);
   request = λ e. absurd (omega arith);
@@ -49,19 +50,12 @@ phase_fits key phase number third = record {
   unused = λ e. absurd (omega arith);
 }
 
+pub phase_fits : (key : Key) (phase : Phase) → is_number key ≡ true → word_in key 2 ≡ phase_number phase → NumberFits 7 key
+phase_fits key phase number third = ids_low key number (subst (λ n. n < 6) (sym third) (phase_low phase))
+
 -- the ids change, and the phase stays
 pub ids_fit : (key was : Key) → is_number key ≡ true → word_in key 2 ≡ word_in was 2 → NumberFits 7 was → NumberFits 7 key
-ids_fit key was number third before = record {
-  number = number;
-  state = λ e. absurd (omega arith);
-  phase = λ e. subst (λ n. n < 6) (sym third) (before.phase e);
-  break = λ e. absurd (omega arith);
-  call = λ e. absurd (omega arith);
-  request = λ e. absurd (omega arith);
-  answer = λ e. absurd (omega arith);
-  parked = λ e. absurd (omega arith);
-  unused = λ e. absurd (omega arith);
-}
+ids_fit key was number third before = ids_low key number (subst (λ n. n < 6) (sym third) (before.phase refl))
 
 pub break_fits : (key : Key) (first last : ℕ) → is_number key ≡ true → word_in key 0 ≡ first → word_in key 1 ≡ last → IsBreak first last → NumberFits 8 key
 break_fits key first last number one two is = record {

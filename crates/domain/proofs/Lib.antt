@@ -17,3 +17,6 @@ pub mod Clearing
 pub mod Gone
 pub mod Ending
 pub mod Dropping
+pub mod Passing
+pub mod KeysTested
+pub mod Tested

@@ -6,7 +6,7 @@ use Rattle.std.proofs.lemmas.Bool.{cases_eq, eq-eqb, ne_eqb}
 use Rattle.kn_base.specs.declared.key.Key.{Key}
 use Rattle.kn_base.specs.declared.key.Key.TheVariants.{Null, Number, Meter, Start}
 use Rattle.unix_model.specs.Tables.{at, with_at}
-use Rattle.domain.specs.Keys.{is_number, is_meter, meter_in, node_in, segment_in, page_in, word_in, key_of_space}
+use Rattle.domain.specs.Keys.{is_number, is_meter, meter_in, node_in, segment_in, page_in, key_of_space}
 use Rattle.domain.specs.Rules.{RootGood, RootPlaces, RowsGood, NumberFits, WordsGood, NobodyIn, written}
 
 pub here_at : {X : Type 0} (f : ℕ → X) (n : ℕ) (x : X) → with_at f n x n ≡ x

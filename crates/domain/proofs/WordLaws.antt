@@ -1,9 +1,9 @@
 -- The register node and the descriptor node of a domain, while numbers are written in them.
-use Rattle.std.proofs.Common.{◌≡◌, ◌≢◌, ◌<◌, ◌≤◌, ◌+◌, ◌-◌, ◌*◌, ◌/◌, ◌%◌, ◌^◌, ◌&&◌, ◌⊎◌, ℕ, Bool, Option, Some, None, true, false, nat_lt, List, [], ◌∷◌, length, get_or, get_or-set_same, get_or-set_other, set, refl, ap, sym, ◌∙◌, arith, ⊎_elim, if◌then◌else◌, zero, suc, replicate}
+use Rattle.std.proofs.Common.{◌≡◌, ◌≢◌, ◌<◌, ◌≤◌, ◌+◌, ◌-◌, ◌*◌, ◌/◌, ◌%◌, ◌⊎◌, ℕ, Option, Some, None, true, false, nat_lt, List, [], ◌∷◌, length, get_or, get_or-set_same, get_or-set_other, set, refl, ap, sym, ◌∙◌, arith, ⊎_elim, if◌then◌else◌, zero, suc, replicate}
 use Rattle.std.specs.Option.{is_some, ForSome}
 use Rattle.std.specs.Prelude.{MatchOption}
 use Rattle.std.proofs.Math.Path.{fun_ext}
-use Rattle.std.proofs.lemmas.Bool.{cases_eq, cases_lt, lt-ltb, le-ltb, ne_eqb}
+use Rattle.std.proofs.lemmas.Bool.{and_parts, cases_eq, cases_lt, lt-ltb, le-ltb, ne_eqb}
 use Rattle.std.proofs.lemmas.List.{get_or_push, length-append, length-set, ext_get_or}
 use Rattle.std.proofs.Math.ListN.{get_or-append}
 use Rattle.kn_base.specs.declared.key.Key.{Key}
@@ -284,23 +284,14 @@ unfolding full_domain
 root_descriptors rows root named live is =
     ap (λ (d : Domain). d.descriptors) (root_domain rows root (live_meter rows root live)) ∙ ap (λ o. λ n. description_by (words_of rows o n)) is
 
-and_left : (a b : Bool) → (a && b) ≡ true → a ≡ true
-and_left true b e = refl
-and_left false b e = cc
-
-and_right : (a b : Bool) → (a && b) ≡ true → b ≡ true
-and_right true true e = refl
-and_right true false e = cc
-and_right false b e = cc
-
 pub whole_named : (rows : ℕ → ℕ → Key) (root place : ℕ) → (at (domain_at rows) root).live ≡ true → (at (domain_at rows) root).whole ≡ true → (place ≡ 3) ⊎ (place ≡ 4) → node_in (rows root place) ≡ None → ⊥
 whole_named rows root place live whole which none =
     let both = sym (root_whole rows root live) ∙ whole in
     ⊎_elim
     (λ (e : place ≡ 3).
-    let no : false ≡ true = ap is_some (sym (ap (λ p. node_in (rows root p)) (sym e) ∙ none)) ∙ and_left (is_some (node_in (rows root 3))) (is_some (node_in (rows root 4))) both in cc)
+    let no : false ≡ true = ap is_some (sym (ap (λ p. node_in (rows root p)) (sym e) ∙ none)) ∙ (and_parts (is_some (node_in (rows root 3))) (is_some (node_in (rows root 4))) both).0 in cc)
     (λ (e : place ≡ 4).
-    let no : false ≡ true = ap is_some (sym (ap (λ p. node_in (rows root p)) (sym e) ∙ none)) ∙ and_right (is_some (node_in (rows root 3))) (is_some (node_in (rows root 4))) both in cc)
+    let no : false ≡ true = ap is_some (sym (ap (λ p. node_in (rows root p)) (sym e) ∙ none)) ∙ (and_parts (is_some (node_in (rows root 3))) (is_some (node_in (rows root 4))) both).1 in cc)
     which
 
 -- registers are set

@@ -1,11 +1,11 @@
 -- Words of registers and of descriptors are right, while one key of their node is written.
-use Rattle.std.proofs.Common.{◌≡◌, ◌≢◌, ◌<◌, ◌≤◌, ◌/◌, ◌%◌, ℕ, Some, true, set, ap, sym, subst, ◌∙◌, arith, ⊎_elim}
+use Rattle.std.proofs.Common.{◌≡◌, ◌≢◌, ◌<◌, ◌≤◌, ◌/◌, ◌%◌, ℕ, Some, set, ap, sym, subst, ◌∙◌, arith, ⊎_elim}
 use Rattle.std.proofs.lemmas.Bool.{cases_eq}
 use Rattle.kn_base.specs.declared.key.Key.{Key}
 use Rattle.unix_model.specs.Tables.{with_at}
 use Rattle.domain.specs.Keys.{node_in, word_in, words_in}
 use Rattle.domain.specs.Domains.{node_words}
-use Rattle.domain.specs.Rules.{RowsGood, NamedAt, RegistersGood, DescriptorsGood, WordsGood}
+use Rattle.domain.specs.Rules.{RowsGood, NamedAt, WordsGood}
 use Rattle.domain.proofs.RowLaws.{row_case}
 use Rattle.domain.proofs.WordLaws.{word_of, word_kept, word_now}
 

@@ -6,3 +6,6 @@ pub mod Sets
 pub mod Buffers
 pub mod Life
 pub mod Ends
+pub mod Phases
+pub mod Checks
+pub mod Tests

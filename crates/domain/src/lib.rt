@@ -4,6 +4,7 @@
 //! one changes that one domain in the table and nothing else.
 #![tactic(auto)]
 
+mod checks;
 mod ends;
 mod keys;
 mod laws;
@@ -13,6 +14,7 @@ mod setters;
 mod steps;
 mod types;
 
+pub use checks::check_domain;
 pub use ends::{drop_domain, make_zombie};
 pub use laws::untaken_rows_are_good;
 pub use life::new_domain;
