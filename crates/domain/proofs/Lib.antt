@@ -20,3 +20,4 @@ pub mod Dropping
 pub mod Passing
 pub mod KeysTested
 pub mod Tested
+pub mod Living

@@ -1,6 +1,8 @@
 //! Keys of the nodes of domains: how they are read and spelled.
 
 ghost use Rattle.std.specs.Prelude.{◌≡◌, ◌≢◌, ℕ, ◌<◌, ◌≤◌, ◌+◌, ◌*◌, true, None, Some, [], ◌∷◌, MatchOption};
+ghost use Rattle.kn_base.specs.declared.key.Key.TheVariants.{Number};
+ghost use Rattle.kn_base.specs.Keys.{counted_body};
 ghost use Rattle.kn_base.specs.Memory.{Memory};
 ghost use Rattle.kernel_tables.specs.Kernel.{Kernel, kernel_of, Sized, IsSized};
 ghost use Rattle.kernel_tables.specs.Rows.{domain_rows, key_table};
@@ -98,6 +100,7 @@ pub fn number_of(words: [u32; 3]) -> Key
 /// A number of one word and a count.
 #[tactic(auto, unfolding(crate::specs::Keys::word_in, crate::specs::Keys::count_in))]
 pub fn counted_of(word: u32, count: u64) -> Key
+    ensures spelled { result ≡ Number (counted_body word count) }
     ensures word { word_in result 0 ≡ word }
     ensures count { count_in result ≡ count }
     ensures number { is_number result ≡ true }

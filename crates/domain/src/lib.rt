@@ -19,13 +19,13 @@ pub use ends::{drop_domain, make_zombie};
 pub use laws::untaken_rows_are_good;
 pub use life::new_domain;
 pub use readers::buffer::read_buffer;
+pub use readers::life::{count_of, state_of};
 pub use readers::slots::root_of;
 pub use readers::words::{descriptor, regs_of};
-pub use readers::{
-    answer_of, count_of, heads_of, mark_words, phase_of, request_of, space_of, state_of,
-};
+pub use readers::{answer_of, heads_of, mark_words, phase_of, request_of, space_of};
 pub use setters::buffer::{drop_buffer, write_buffer};
+pub use setters::life::set_state;
 pub use setters::space::set_space;
 pub use setters::words::{set_descriptor, set_regs};
-pub use setters::{set_answer, set_heads, set_mark_words, set_phase, set_request, set_state};
+pub use setters::{set_answer, set_heads, set_mark_words, set_phase, set_request};
 pub use types::{Answer, Heads, Phase, State};

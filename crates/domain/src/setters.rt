@@ -1,6 +1,7 @@
 //! What is written in a domain, by its root.
 
 pub mod buffer;
+pub mod life;
 pub mod space;
 pub mod words;
 
@@ -17,8 +18,8 @@ ghost use Rattle.domain.specs.Rules.{RowsGood, NumberFits, written};
 ghost use Rattle.domain.specs.Sets.{WritesNumbers};
 ghost use Rattle.domain.specs.Domains.{domains, lives, with_heads};
 
-use super::keys::{counted_of, number_of, root_key, state_number, with_ids, with_phase};
-use super::types::{Answer, Heads, Phase, State};
+use super::keys::{number_of, root_key, with_ids, with_phase};
+use super::types::{Answer, Heads, Phase};
 use kn_base::{Key, NodeId, Store};
 use space_bank::write_key;
 use unix_model::Request;
@@ -60,23 +61,6 @@ fn put_numbers<T: Store>(store: &mut T, root: NodeId, place: u8, first: Key, sec
 {
     put_number(store, root, place, first);
     put_number(store, root, place + 1, second);
-}
-
-/// Sets whether the domain may be called, runs or waits, and how many of its calls were answered.
-pub fn set_state<T: Store>(store: &mut T, root: NodeId, state: State, count: u64)
-    requires good { BankGood (kernel_of (T.memory store.old)) }
-    requires rows { RowsGood (domain_rows (kernel_of (T.memory store.old))) }
-    requires live { (at (domains (kernel_of (T.memory store.old))) root.0).live ≡ true }
-    ensures set { lives (kernel_of (T.memory store.new)) ≡ with_at (lives (kernel_of (T.memory store.old))) root.0 (record { state = state; count = count }) }
-    ensures domains { domains (kernel_of (T.memory store.new)) ≡ domains (kernel_of (T.memory store.old)) }
-    ensures others { WritesNumbers (kernel_of (T.memory store.old)) (kernel_of (T.memory store.new)) }
-    ensures rows { RowsGood (domain_rows (kernel_of (T.memory store.new))) }
-    ensures good { BankGood (kernel_of (T.memory store.new)) }
-    ensures blocks { ChangesBlocks (T.blocks store.old) (T.blocks store.new) (key_block (kernel_of (T.memory store.old)).pages root.0 ∷ []) }
-    ensures keeps { T.keeps store.old store.new }
-{
-    let key = counted_of(state_number(state), count);
-    put_number(store, root, 6, key);
 }
 
 /// Sets how far the process is with its turn.
