@@ -14,10 +14,14 @@ use Rattle.domain.specs.Phases.{state_for, key_for, FitsPhase}
 abbrev pub node_rows : Kernel → ℕ → ℕ → Key
 node_rows kernel = rows (λ entry. true) kernel.node_entries kernel.keys
 
--- each Node key and each Domain key, whatever node it stands in, names a node of the store
-pub record NodesInRange (kernel : Kernel) : Type 0 where
-  pub nodes : (place node : ℕ) → node_in (key_table kernel.keys place) ≡ Some node → node < kernel.nodes
-  pub roots : (place root : ℕ) → root_in (key_table kernel.keys place) ≡ Some root → root < kernel.nodes
+-- what a Node key or a Domain key names is one of so many nodes, ..
+pub record KeyInRange (nodes : ℕ) (key : Key) : Type 0 where
+  pub node : (node : ℕ) → node_in key ≡ Some node → node < nodes
+  pub root : (root : ℕ) → root_in key ≡ Some root → root < nodes
+
+-- .. at each place of a node, whoever owns it
+abbrev pub NodesInRange : Kernel → Type 0
+NodesInRange kernel = (place : ℕ) → KeyInRange kernel.nodes (key_table kernel.keys place)
 
 -- numbers at keys 0 to 10 of a node, and Null behind them
 pub record HasWords (row : ℕ → Key) : Type 0 where

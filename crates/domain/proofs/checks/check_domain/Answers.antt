@@ -8,7 +8,7 @@ use Rattle.domain.proofs.checks.check_domain.Goals as goal
 pub is_domain_of-requires-clause-node : goal.is_domain_of-requires-clause-node
 is_domain_of-requires-clause-node g c =
     let kernel = kernel_of (g.T.Store.memory c.args.store.now) in
-    c.requires.in_range.roots (16 * (11 + c.args.slot / 16) + c.args.slot % 16) c.in-Domain.id.0
+    (c.requires.in_range (16 * (11 + c.args.slot / 16) + c.args.slot % 16)).root c.in-Domain.id.0
     (ap root_in (sym (row_is kernel (11 + c.args.slot / 16) (c.args.slot % 16) (omega arith)) ∙ sym c.row_key.ensures ∙ c.in-Domain.is))
 
 pub returns-in-Domain : goal.returns-in-Domain

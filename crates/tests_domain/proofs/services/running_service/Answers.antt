@@ -1,0 +1,24 @@
+use Rattle.std.proofs.Common.{◌≡◌, ◌⊎◌, ◌-◌, ◌^◌, inr, arith}
+use Rattle.kernel_tables.specs.Kernel.{kernel_of}
+use Rattle.space_bank.specs.Fixed.{state_key}
+use Rattle.domain.specs.Domains.{state_number}
+use Rattle.domain.specs.declared.types.State.TheVariants.{Running}
+use Rattle.domain.proofs.Untaken.{untaken_rows}
+use Rattle.tests_domain.proofs.Ready.{empty_taken}
+use Rattle.tests_domain.proofs.ServiceLaws.{fresh_service, other_service}
+use Rattle.tests_domain.proofs.services.running_service.Goals as goal
+
+pub set_state-requires-clause-rows : goal.set_state-requires-clause-rows
+set_state-requires-clause-rows g c =
+    let kernel = kernel_of (g.T.Store.memory c.setup.new.store) in
+    untaken_rows kernel c.setup.ensures.good (empty_taken kernel c.setup.ensures.made)
+
+pub set_state-requires-clause-alive : goal.set_state-requires-clause-alive
+set_state-requires-clause-alive g c =
+    inr (fresh_service (kernel_of (g.T.Store.memory c.setup.new.store)) 3 c.setup.ensures.good c.setup.ensures.nodes (omega arith) (omega arith))
+
+pub returns-clause-pipes : goal.returns-clause-pipes
+returns-clause-pipes g c =
+    let old = kernel_of (g.T.Store.memory c.setup.new.store) in
+    inr (other_service old (kernel_of (g.T.Store.memory c.set_state.new.store)) 3 4 (state_key 1 (2 ^ 64 - 1)) c.set_state.ensures.others (λ e. absurd (omega arith))
+    (fresh_service old 4 c.setup.ensures.good c.setup.ensures.nodes (omega arith) (omega arith)))
