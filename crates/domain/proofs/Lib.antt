@@ -21,3 +21,4 @@ pub mod Passing
 pub mod KeysTested
 pub mod Tested
 pub mod Living
+pub mod Ruled

@@ -1,5 +1,5 @@
 -- The services of an empty machine.
-use Rattle.std.proofs.Common.{◌≡◌, ◌≢◌, ◌≤◌, ◌⊎◌, ℕ, ap, sym, subst, ◌∙◌, arith, inr, refl}
+use Rattle.std.proofs.Common.{◌≡◌, ◌≢◌, ◌≤◌, ℕ, ap, sym, subst, ◌∙◌, arith, refl}
 use Rattle.kernel_tables.specs.Kernel.{Kernel}
 use Rattle.kernel_tables.specs.Rows.{spelled_or_null, key_table, fixed_rows}
 use Rattle.space_bank.specs.Bank.{BankGood}
@@ -7,7 +7,7 @@ use Rattle.space_bank.specs.Fixed.{FreshNodes, state_key}
 use Rattle.kn_base.specs.declared.key.Key.{Key}
 use Rattle.domain.specs.Keys.{word_in}
 use Rattle.domain.specs.Rules.{NumberFits}
-use Rattle.domain.specs.Lives.{IsService, HasLife, SetsLife}
+use Rattle.domain.specs.Lives.{IsService, SetsLife}
 use Rattle.domain.proofs.Fits.{life_fits}
 use Rattle.domain.proofs.Writing.{fixed_key}
 

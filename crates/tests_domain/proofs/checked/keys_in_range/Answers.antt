@@ -1,7 +1,6 @@
-use Rattle.std.proofs.Common.{◌∙◌, arith}
+use Rattle.std.proofs.Common.{arith}
 use Rattle.kernel_tables.specs.Kernel.{kernel_of}
-use Rattle.kernel_tables.specs.Rows.{key_table}
-use Rattle.tests_domain.proofs.Ranges.{more_in_range, in_range}
+use Rattle.tests_domain.proofs.Ranges.{in_range}
 use Rattle.tests_domain.proofs.checked.keys_in_range.Goals as goal
 
 pub returns : goal.returns

@@ -1,4 +1,4 @@
-use Rattle.std.proofs.Common.{◌≡◌, ℕ}
+use Rattle.std.proofs.Common.{◌≡◌}
 use Rattle.kernel_tables.specs.Kernel.{kernel_of}
 use Rattle.domain.specs.Checks.{NodesInRange}
 use Rattle.tests_domain.specs.First.{IsReadable}

@@ -1,8 +1,6 @@
-use Rattle.std.proofs.Common.{◌≡◌, ◌⊎◌, ◌-◌, ◌^◌, inr, arith}
+use Rattle.std.proofs.Common.{◌-◌, ◌^◌, inr, arith}
 use Rattle.kernel_tables.specs.Kernel.{kernel_of}
 use Rattle.space_bank.specs.Fixed.{state_key}
-use Rattle.domain.specs.Domains.{state_number}
-use Rattle.domain.specs.declared.types.State.TheVariants.{Running}
 use Rattle.domain.proofs.Untaken.{untaken_rows}
 use Rattle.tests_domain.proofs.Ready.{empty_taken}
 use Rattle.tests_domain.proofs.ServiceLaws.{fresh_service, other_service}
