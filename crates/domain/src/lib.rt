@@ -16,7 +16,7 @@ mod types;
 
 pub use checks::check_domain;
 pub use ends::{drop_domain, make_zombie};
-pub use laws::{fields_are_good, untaken_rows_are_good};
+pub use laws::{fields_are_good, services_are_there, untaken_rows_are_good};
 pub use life::new_domain;
 pub use readers::buffer::read_buffer;
 pub use readers::life::{count_of, state_of};

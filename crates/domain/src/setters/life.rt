@@ -22,13 +22,12 @@ use space_bank::write_key;
 // Writes a number at key 6 of the root of a service.
 fn put_service<T: Store>(store: &mut T, root: NodeId, key: Key)
     requires good { BankGood (kernel_of (T.memory store.old)) }
-    requires service { IsService (kernel_of (T.memory store.old)) root.0 }
+    requires service { IsService (fixed_rows (kernel_of (T.memory store.old))) root.0 }
     requires fits { NumberFits 6 key }
     ensures put { fixed_rows (kernel_of (T.memory store.new)) ≡ written (fixed_rows (kernel_of (T.memory store.old))) root.0 6 key }
     ensures rows { domain_rows (kernel_of (T.memory store.new)) ≡ domain_rows (kernel_of (T.memory store.old)) }
     ensures set { lives (kernel_of (T.memory store.new)) ≡ with_at (lives (kernel_of (T.memory store.old))) root.0 (life_in key) }
     ensures others { SetsLife (kernel_of (T.memory store.old)) (kernel_of (T.memory store.new)) root.0 key }
-    ensures service { IsService (kernel_of (T.memory store.new)) root.0 }
     ensures good { BankGood (kernel_of (T.memory store.new)) }
     ensures blocks { ChangesBlocks (T.blocks store.old) (T.blocks store.new) (key_block (kernel_of (T.memory store.old)).pages root.0 ∷ []) }
     ensures keeps { T.keeps store.old store.new }

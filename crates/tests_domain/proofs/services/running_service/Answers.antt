@@ -1,9 +1,8 @@
-use Rattle.std.proofs.Common.{◌-◌, ◌^◌, inr, arith}
+use Rattle.std.proofs.Common.{inr, arith}
 use Rattle.kernel_tables.specs.Kernel.{kernel_of}
-use Rattle.space_bank.specs.Fixed.{state_key}
 use Rattle.domain.proofs.Untaken.{untaken_rows}
 use Rattle.tests_domain.proofs.Ready.{empty_taken}
-use Rattle.tests_domain.proofs.ServiceLaws.{fresh_service, other_service}
+use Rattle.tests_domain.proofs.ServiceLaws.{fresh_service}
 use Rattle.tests_domain.proofs.services.running_service.Goals as goal
 
 pub set_state-requires-clause-rows : goal.set_state-requires-clause-rows
@@ -17,6 +16,4 @@ set_state-requires-clause-alive g c =
 
 pub returns-clause-pipes : goal.returns-clause-pipes
 returns-clause-pipes g c =
-    let old = kernel_of (g.T.Store.memory c.setup.new.store) in
-    inr (other_service old (kernel_of (g.T.Store.memory c.set_state.new.store)) 3 4 (state_key 1 (2 ^ 64 - 1)) c.set_state.ensures.others (λ e. absurd (omega arith))
-    (fresh_service old 4 c.setup.ensures.good c.setup.ensures.nodes (omega arith) (omega arith)))
+    inr (c.set_state.ensures.others.services_now 4 (fresh_service (kernel_of (g.T.Store.memory c.setup.new.store)) 4 c.setup.ensures.good c.setup.ensures.nodes (omega arith) (omega arith)))

@@ -1,7 +1,7 @@
 use Rattle.std.proofs.Common.{ap, arith}
 use Rattle.kernel_tables.specs.Kernel.{kernel_of}
 use Rattle.space_bank.specs.FreeList.{is_free}
-use Rattle.domain.proofs.Living.{service_put, service_rows, service_lives, service_is, service_sets}
+use Rattle.domain.proofs.Living.{service_put, service_rows, service_lives, service_sets}
 use Rattle.domain.proofs.Writing.{slot_put}
 use Rattle.domain.proofs.setters.life.put_service.Goals as goal
 
@@ -46,12 +46,4 @@ returns-clause-others g c =
     let new = kernel_of (g.T.Store.memory c.write_key.new.store) in
     let high = c.requires.service.high in
     service_sets old new c.args.root.0 c.args.key c.requires.good c.requires.service c.requires.fits
-    (slot_put old new c.args.root.0 6 c.args.key c.requires.good (omega arith) (omega arith) c.write_key.ensures.written c.write_key.ensures.shares)
-
-pub returns-clause-service : goal.returns-clause-service
-returns-clause-service g c =
-    let old = kernel_of (g.T.Store.memory c.args.store.now) in
-    let new = kernel_of (g.T.Store.memory c.write_key.new.store) in
-    let high = c.requires.service.high in
-    service_is old new c.args.root.0 c.args.key c.requires.good c.requires.service c.requires.fits
     (slot_put old new c.args.root.0 6 c.args.key c.requires.good (omega arith) (omega arith) c.write_key.ensures.written c.write_key.ensures.shares)
