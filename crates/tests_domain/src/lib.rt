@@ -2,6 +2,8 @@
 //! calls one after the other are proved from what each promises.
 #![tactic(auto)]
 
+#[cfg(test)]
+mod alone;
 mod buffers;
 mod checked;
 #[cfg(test)]
