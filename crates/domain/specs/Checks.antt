@@ -20,8 +20,8 @@ pub record KeyInRange (nodes : ℕ) (key : Key) : Type 0 where
   pub root : (root : ℕ) → root_in key ≡ Some root → root < nodes
 
 -- .. at each place of a node, whoever owns it
-abbrev pub NodesInRange : Kernel → Type 0
-NodesInRange kernel = (place : ℕ) → KeyInRange kernel.nodes (key_table kernel.keys place)
+abbrev pub KeysInRange : Kernel → Type 0
+KeysInRange kernel = (place : ℕ) → KeyInRange kernel.nodes (key_table kernel.keys place)
 
 -- numbers at keys 0 to 10 of a node, and Null behind them
 pub record HasWords (row : ℕ → Key) : Type 0 where

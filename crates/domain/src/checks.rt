@@ -8,7 +8,7 @@ mod words;
 ghost use Rattle.std.specs.Prelude.{◌≡◌, ℕ, ◌<◌, ◌/◌, ◌%◌, ◌+◌, ◌↔◌, IsTrue};
 ghost use Rattle.kn_base.specs.Memory.{Memory};
 ghost use Rattle.kernel_tables.specs.Kernel.{Kernel, kernel_of, Sized, IsSized};
-ghost use Rattle.domain.specs.Checks.{NodesInRange, node_rows, SlotGood};
+ghost use Rattle.domain.specs.Checks.{KeysInRange, node_rows, SlotGood};
 ghost use Rattle.domain.specs.Tests.{has_places, has_numbers, has_objects, has_nodes, phase_of_row, is_domain_of};
 
 use super::keys::{count_in, phase_by, word};
@@ -61,7 +61,7 @@ fn has_objects<T: Store>(store: &T, root: NodeId, phase: Phase) -> bool
 
 // Whether the nodes of words of a root are right in its phase.
 fn has_nodes<T: Store>(store: &T, root: NodeId, phase: Phase) -> bool
-    requires in_range { NodesInRange (kernel_of (T.memory store.now)) }
+    requires in_range { KeysInRange (kernel_of (T.memory store.now)) }
     requires node { root.0 < (kernel_of (T.memory store.now)).nodes }
     ensures { result ≡ has_nodes phase (node_rows (kernel_of (T.memory store.now))) root.0 }
 {
@@ -80,7 +80,7 @@ fn phase_of_root<T: Store>(store: &T, root: NodeId) -> Phase
 
 // Whether a root is that of the domain of a slot, which goes on by a key of the resume room.
 fn is_domain_of<T: Store>(store: &T, slot: u8, root: NodeId, room: Key) -> bool
-    requires in_range { NodesInRange (kernel_of (T.memory store.now)) }
+    requires in_range { KeysInRange (kernel_of (T.memory store.now)) }
     requires node { root.0 < (kernel_of (T.memory store.now)).nodes }
     ensures { result ≡ is_domain_of (node_rows (kernel_of (T.memory store.now))) room slot root.0 }
 {
@@ -98,7 +98,7 @@ fn is_domain_of<T: Store>(store: &T, slot: u8, root: NodeId, room: Key) -> bool
 /// them for the phase. It asks of a store its size, and that the nodes in its keys are in range. Slots are 0 to 63.
 pub fn check_domain<T: Store>(store: &T, slot: u8) -> bool
     requires sized { Sized (kernel_of (T.memory store.now)) }
-    requires in_range { NodesInRange (kernel_of (T.memory store.now)) }
+    requires in_range { KeysInRange (kernel_of (T.memory store.now)) }
     requires slot { slot < 64 }
     ensures { IsTrue result ↔ SlotGood (kernel_of (T.memory store.now)) slot }
 {

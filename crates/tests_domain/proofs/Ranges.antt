@@ -8,7 +8,7 @@ use Rattle.kernel_tables.specs.Kernel.{Kernel}
 use Rattle.kernel_tables.specs.Rows.{spelled_or_null, key_table}
 use Rattle.kernel_forest.proofs.Moves.{key_table-set}
 use Rattle.domain.proofs.RowLaws.{row_case}
-use Rattle.domain.specs.Checks.{KeyInRange, NodesInRange}
+use Rattle.domain.specs.Checks.{KeyInRange, KeysInRange}
 use Rattle.tests_domain.specs.First.{IsReadable}
 
 null_in_range : (nodes : ℕ) → KeyInRange nodes Null
@@ -30,14 +30,14 @@ more_in_range keys nodes place key before is now p low = ⊎_elim
     (cases_eq p place)
 
 -- .. and all are, once all that there are have been looked at
-pub in_range : (kernel : Kernel) → IsReadable kernel → (end : ℕ) → 16 * kernel.nodes ≤ end → ((place : ℕ) → place < end → KeyInRange kernel.nodes (key_table kernel.keys place)) → NodesInRange kernel
+pub in_range : (kernel : Kernel) → IsReadable kernel → (end : ℕ) → 16 * kernel.nodes ≤ end → ((place : ℕ) → place < end → KeyInRange kernel.nodes (key_table kernel.keys place)) → KeysInRange kernel
 in_range kernel readable end far low place = ⊎_elim
     (λ (t : place < end). low place t)
     (λ (t : end ≤ place). let keys = readable.all_keys in subst (KeyInRange kernel.nodes) (sym (past_null kernel.keys place (omega arith))) (null_in_range kernel.nodes))
     (cases_lt place end)
 
 -- a key in range is written
-pub put_in_range : (old new : Kernel) (place : ℕ) (key : Key) → NodesInRange old → place < length old.keys → KeyInRange old.nodes key → new ≡ record old { keys = set old.keys place (Some key) } → NodesInRange new
+pub put_in_range : (old new : Kernel) (place : ℕ) (key : Key) → KeysInRange old → place < length old.keys → KeyInRange old.nodes key → new ≡ record old { keys = set old.keys place (Some key) } → KeysInRange new
 put_in_range old new place key before inside low e p =
     subst (λ (k : Kernel). KeyInRange k.nodes (key_table k.keys p)) (sym e)
     (subst (λ (f : ℕ → Key). KeyInRange old.nodes (f p)) (sym (key_table-set old.keys place key inside))

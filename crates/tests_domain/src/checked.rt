@@ -4,7 +4,7 @@ ghost use Rattle.std.specs.Prelude.{◌≡◌, ℕ, ◌<◌, ◌+◌, ◌*◌, t
 ghost use Rattle.kn_base.specs.Memory.{Memory};
 ghost use Rattle.kernel_tables.specs.Kernel.{Kernel, kernel_of, Sized, IsSized};
 ghost use Rattle.kernel_tables.specs.Rows.{key_table};
-ghost use Rattle.domain.specs.Checks.{KeyInRange, NodesInRange};
+ghost use Rattle.domain.specs.Checks.{KeyInRange, KeysInRange};
 ghost use Rattle.tests_domain.specs.First.{IsReadable};
 
 use domain::check_domain;
@@ -49,7 +49,7 @@ fn is_low(key: Key, nodes: u32) -> bool
 /// Whether each key, whatever node it stands in, names no node past the store's.
 pub fn keys_in_range<T: Store>(store: &T) -> bool
     requires readable { IsReadable (kernel_of (T.memory store.now)) }
-    ensures { result ≡ true → NodesInRange (kernel_of (T.memory store.now)) }
+    ensures { result ≡ true → KeysInRange (kernel_of (T.memory store.now)) }
 {
     let nodes = node_number(store);
     for place in 0..16 * nodes {
@@ -78,12 +78,12 @@ pub fn looks_right<T: Store>(store: &T, slot: u8) -> Option<bool>
 /// Writes a key at a place of a node, whatever that breaks, but one that names a node past the store's.
 pub fn put_low<T: Store>(store: &mut T, node: NodeId, place: u8, key: Key)
     requires readable { IsReadable (kernel_of (T.memory store.old)) }
-    requires in_range { NodesInRange (kernel_of (T.memory store.old)) }
+    requires in_range { KeysInRange (kernel_of (T.memory store.old)) }
     requires node { node.0 < (kernel_of (T.memory store.old)).nodes }
     requires place { place < 16 }
     requires low { KeyInRange (kernel_of (T.memory store.old)).nodes key }
     ensures readable { IsReadable (kernel_of (T.memory store.new)) }
-    ensures in_range { NodesInRange (kernel_of (T.memory store.new)) }
+    ensures in_range { KeysInRange (kernel_of (T.memory store.new)) }
     ensures nodes { (kernel_of (T.memory store.new)).nodes ≡ (kernel_of (T.memory store.old)).nodes }
 {
     set_key_at(store, node, place, key);
@@ -107,12 +107,12 @@ pub fn looks_with<T: Store>(
     other: Key,
 ) -> Option<bool>
     requires readable { IsReadable (kernel_of (T.memory store.old)) }
-    requires in_range { NodesInRange (kernel_of (T.memory store.old)) }
+    requires in_range { KeysInRange (kernel_of (T.memory store.old)) }
     requires slot { slot < 64 }
     requires node { node.0 < (kernel_of (T.memory store.old)).nodes }
     requires place { place < 16 }
     ensures readable { IsReadable (kernel_of (T.memory store.new)) }
-    ensures in_range { NodesInRange (kernel_of (T.memory store.new)) }
+    ensures in_range { KeysInRange (kernel_of (T.memory store.new)) }
     ensures nodes { (kernel_of (T.memory store.new)).nodes ≡ (kernel_of (T.memory store.old)).nodes }
 {
     let key = key_there(store, node, place);
@@ -135,13 +135,13 @@ pub fn looks_damaged<T: Store>(
     byte: u8,
 ) -> Option<bool>
     requires readable { IsReadable (kernel_of (T.memory store.old)) }
-    requires in_range { NodesInRange (kernel_of (T.memory store.old)) }
+    requires in_range { KeysInRange (kernel_of (T.memory store.old)) }
     requires slot { slot < 64 }
     requires node { node.0 < (kernel_of (T.memory store.old)).nodes }
     requires place { place < 16 }
     requires byte { byte < 16 }
     ensures readable { IsReadable (kernel_of (T.memory store.new)) }
-    ensures in_range { NodesInRange (kernel_of (T.memory store.new)) }
+    ensures in_range { KeysInRange (kernel_of (T.memory store.new)) }
     ensures nodes { (kernel_of (T.memory store.new)).nodes ≡ (kernel_of (T.memory store.old)).nodes }
 {
     match raised(key_there(store, node, place), byte) {

@@ -3,7 +3,7 @@
 ghost use Rattle.std.specs.Prelude.{◌≡◌, ℕ, ◌<◌, ◌*◌, IfOk, length};
 ghost use Rattle.kn_base.specs.Memory.{Memory};
 ghost use Rattle.kernel_tables.specs.Kernel.{Kernel, kernel_of, first_page, node_count, Sized, IsSized};
-ghost use Rattle.domain.specs.Checks.{KeyInRange, NodesInRange};
+ghost use Rattle.domain.specs.Checks.{KeyInRange, KeysInRange};
 ghost use Rattle.obj_store.specs.Store.{ram_memory};
 ghost use Rattle.tests_domain.specs.First.{IsReadable};
 
@@ -93,9 +93,9 @@ fn damage_key<T: Store>(rt: &impl Abort, store: &mut T, which: Node, node: NodeI
     requires readable { IsReadable (kernel_of (T.memory store.old)) }
     requires node { node.0 < (kernel_of (T.memory store.old)).nodes }
     requires place { place < 16 }
-    requires in_range { NodesInRange (kernel_of (T.memory store.old)) }
+    requires in_range { KeysInRange (kernel_of (T.memory store.old)) }
     ensures readable { IsReadable (kernel_of (T.memory store.new)) }
-    ensures in_range { NodesInRange (kernel_of (T.memory store.new)) }
+    ensures in_range { KeysInRange (kernel_of (T.memory store.new)) }
     ensures nodes { (kernel_of (T.memory store.new)).nodes ≡ (kernel_of (T.memory store.old)).nodes }
 {
     let mut looked = 0u32;

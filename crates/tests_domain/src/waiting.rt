@@ -3,7 +3,7 @@
 ghost use Rattle.std.specs.Prelude.{◌≡◌, ℕ, ◌<◌, ◌≤◌, ◌*◌, IfOk, length};
 ghost use Rattle.kn_base.specs.Memory.{Memory};
 ghost use Rattle.kernel_tables.specs.Kernel.{Kernel, kernel_of, first_page, node_count, Sized, IsSized};
-ghost use Rattle.domain.specs.Checks.{KeyInRange, NodesInRange};
+ghost use Rattle.domain.specs.Checks.{KeyInRange, KeysInRange};
 ghost use Rattle.obj_store.specs.Store.{ram_memory};
 ghost use Rattle.tests_domain.specs.First.{IsReadable};
 
@@ -76,7 +76,7 @@ fn number(first: u32, second: u32, third: u32) -> Key {
 fn goes_on<T: Store>(rt: &impl Abort, store: &mut T, root: NodeId)
     requires readable { IsReadable (kernel_of (T.memory store.old)) }
     ensures readable { IsReadable (kernel_of (T.memory store.new)) }
-    ensures in_range { NodesInRange (kernel_of (T.memory store.new)) }
+    ensures in_range { KeysInRange (kernel_of (T.memory store.new)) }
     ensures nodes { (kernel_of (T.memory store.new)).nodes ≡ (kernel_of (T.memory store.old)).nodes }
 {
     assert!(rt; keys_in_range(store));
@@ -106,9 +106,9 @@ fn goes_on<T: Store>(rt: &impl Abort, store: &mut T, root: NodeId)
 // Writes a key over another one of the root, and looks.
 fn looks<T: Store>(rt: &impl Abort, store: &mut T, root: NodeId, case: Case)
     requires readable { IsReadable (kernel_of (T.memory store.old)) }
-    requires in_range { NodesInRange (kernel_of (T.memory store.old)) }
+    requires in_range { KeysInRange (kernel_of (T.memory store.old)) }
     ensures readable { IsReadable (kernel_of (T.memory store.new)) }
-    ensures in_range { NodesInRange (kernel_of (T.memory store.new)) }
+    ensures in_range { KeysInRange (kernel_of (T.memory store.new)) }
 {
     assert!(rt; root.0 < node_number(store));
     assert!(rt; case.place < 16);
@@ -119,7 +119,7 @@ fn looks<T: Store>(rt: &impl Abort, store: &mut T, root: NodeId, case: Case)
 // Looks at each case.
 fn look_at_all<T: Store>(rt: &impl Abort, store: &mut T, root: NodeId, cases: &[Case])
     requires readable { IsReadable (kernel_of (T.memory store.old)) }
-    requires in_range { NodesInRange (kernel_of (T.memory store.old)) }
+    requires in_range { KeysInRange (kernel_of (T.memory store.old)) }
 {
     for case in cases {
         looks(rt, store, root, *case);
