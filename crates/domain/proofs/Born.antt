@@ -115,7 +115,8 @@ zero_registers_good = record { zero = zero_words 0; aligned = ap (λ w. w % 4) (
 zero_descriptors_good : DescriptorsGood zero_row
 zero_descriptors_good = record { fit = λ n low. let z = zero_words n in omega arith; unused = zero_words 32 }
 
-no_break : IsBreak 0 0
+-- a break that nobody has set
+pub no_break : IsBreak 0 0
 no_break = record { start_aligned = refl; order = omega arith; limit = omega arith }
 
 zero_fits : (place : ℕ) → NumberFits place zero_number
