@@ -17,3 +17,4 @@ pub mod UntakenLaws
 pub mod PagesLeft
 pub mod SharedPages
 pub mod HolesLeft
+pub mod KeepLaws

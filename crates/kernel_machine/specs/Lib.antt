@@ -8,4 +8,5 @@ pub mod Counts
 pub mod Held
 pub mod Good
 pub mod Laws
+pub mod Keeps
 pub mod Bounds

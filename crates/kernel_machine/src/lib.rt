@@ -4,6 +4,7 @@
 mod bounds;
 mod calls;
 mod changes;
+mod keeps;
 mod views;
 
 pub use bounds::{
@@ -16,6 +17,7 @@ pub use changes::{
     description_written, files_written, inode_written, key_handed_over, numbers_written,
     spaces_changed,
 };
+pub use keeps::{fixed_with_birth, fixed_with_rows, trees_with_birth, trees_with_numbers};
 pub use views::{
     description_changed, description_freed, domain_born, domain_changed, domain_gone,
     inode_changed, inode_freed, lives_unseen, memory_changed, ring_changed, tree_changed,
