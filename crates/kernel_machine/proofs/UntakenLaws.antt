@@ -36,7 +36,7 @@ untaken-owner (Taken owner count) e = absurd (omega arith)
 untaken-owner Fixed e = refl
 untaken-owner Unspelled e = refl
 
-untaken-node : {P : Type 0} (entry : Entry NodeOwner) → taken_one entry ≡ 0 → of_domain entry ≡ true → P
+pub untaken-node : {P : Type 0} (entry : Entry NodeOwner) → taken_one entry ≡ 0 → of_domain entry ≡ true → P
 untaken-node (Free next) e is = absurd (cc)
 untaken-node (Taken owner count) e is = absurd (omega arith)
 untaken-node Fixed e is = absurd (cc)
@@ -76,7 +76,7 @@ module _ (kernel : Kernel) (good : BankGood kernel) (no_node : kernel.machine.no
   unfolding taken_count
   node-free n = none-taken kernel.node_entries n (sym good.nodes.entries_good.number ∙ no_node)
 
-  no-node-owner : (node : ℕ) → (forest_of kernel).owner (NodeObject node) ≡ None
+  pub no-node-owner : (node : ℕ) → (forest_of kernel).owner (NodeObject node) ≡ None
   unfolding owner_of
   no-node-owner node = untaken-tree node_tree (entry_at kernel.node_entries node) (node-free node)
 

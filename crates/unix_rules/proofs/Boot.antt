@@ -104,11 +104,11 @@ unix_kept calls unix slot input small is =
 
 -- ---- boot: before anything is stored
 
-nothing-some : {X : Type 0} (n : ℕ) (x : X) → at nothing n ≡ Some x → ⊥
+pub nothing-some : {X : Type 0} (n : ℕ) (x : X) → at nothing n ≡ Some x → ⊥
 unfolding at nothing
 nothing-some n x e = some-differ x e
 
-none-there : {X : Type 0} (n : ℕ) → at (nothing {X = X}) n ≡ None
+pub none-there : {X : Type 0} (n : ℕ) → at (nothing {X = X}) n ≡ None
 unfolding at nothing
 none-there n = refl
 
@@ -126,16 +126,19 @@ first-of n inode e = by_root (put-reads (with_at nothing console_inode (Some Con
     by_root (inr other) = by_console (put-reads nothing console_inode n Console inode other.1)
 
 -- nothing has an entry
-first-empty : (found : Option Inode) (place : ℕ) → ((inode : Inode) → found ≡ Some inode → places_of (Some inode) ≡ []) → get_or (places_of found) place None ≡ None
-first-empty None place none = refl
-first-empty (Some inode) place none = ap (λ (l : List (Option Entry)). get_or l place None) (none inode refl)
+first-empty : (found : Option Inode) → ((inode : Inode) → found ≡ Some inode → places_of (Some inode) ≡ []) → places_of found ≡ []
+first-empty None none = refl
+first-empty (Some inode) none = none inode refl
 
-no-entry : (directory place : ℕ) → entry_at first_inodes directory place ≡ None
-no-entry directory place = first-empty (at first_inodes directory) place (λ inode e. places_none inode (first-of directory inode e))
+pub first-places : (number : ℕ) → places_of (at first_inodes number) ≡ []
+first-places number = first-empty (at first_inodes number) (λ inode e. places_none inode (first-of number inode e))
   where
-    places_none : (inode : Inode) → ((directory ≡ root_inode) × (Directory root_inode [] ≡ inode)) ⊎ ((directory ≡ console_inode) × (Console ≡ inode)) → places_of (Some inode) ≡ []
+    places_none : (inode : Inode) → ((number ≡ root_inode) × (Directory root_inode [] ≡ inode)) ⊎ ((number ≡ console_inode) × (Console ≡ inode)) → places_of (Some inode) ≡ []
     places_none inode (inl own) = ap (λ (i : Inode). places_of (Some i)) (sym own.1)
     places_none inode (inr own) = ap (λ (i : Inode). places_of (Some i)) (sym own.1)
+
+no-entry : (directory place : ℕ) → entry_at first_inodes directory place ≡ None
+no-entry directory place = ap (λ (l : List (Option Entry)). get_or l place None) (first-places directory)
 
 root-there : at first_inodes root_inode ≡ Some (Directory root_inode [])
 unfolding first_inodes
