@@ -18,3 +18,4 @@ pub mod PagesLeft
 pub mod SharedPages
 pub mod HolesLeft
 pub mod KeepLaws
+pub mod StandingLaws

@@ -9,4 +9,5 @@ pub mod Held
 pub mod Good
 pub mod Laws
 pub mod Keeps
+pub mod Standing
 pub mod Bounds

@@ -5,6 +5,7 @@ mod bounds;
 mod calls;
 mod changes;
 mod keeps;
+mod standing;
 mod views;
 
 pub use bounds::{
@@ -18,6 +19,10 @@ pub use changes::{
     spaces_changed,
 };
 pub use keeps::{fixed_with_birth, fixed_with_rows, trees_with_birth, trees_with_numbers};
+pub use standing::{
+    good_is_both, slots_changed, standing_with_bytes, standing_with_description,
+    standing_with_inode, standing_with_life, standing_with_numbers, standing_with_words,
+};
 pub use views::{
     description_changed, description_freed, domain_born, domain_changed, domain_gone,
     inode_changed, inode_freed, lives_unseen, memory_changed, ring_changed, tree_changed,
