@@ -10,7 +10,7 @@ use Rattle.forest.specs.Changes.{with_key}
 use Rattle.forest.specs.Laws.{CallChangesMap, OwnWayIsOwn, CallDropsSpace}
 use Rattle.forest.proofs.ExactLaws.{not_named, nobody_counted}
 use Rattle.forest.proofs.OwnLaws.{own_page_is_alone}
-use Rattle.forest.proofs.ReleaseLaws.{no_name, last_key, front_owned, release_unnamed, release_keeps_spaces, release_gives_unnamed}
+use Rattle.forest.proofs.ReleaseLaws.{no_name, tail_space, last_key, front_owned, release_unnamed, release_keeps_spaces, release_gives_unnamed}
 use Rattle.forest.proofs.ReachLaws.{nothing_in_hand}
 use Rattle.forest.proofs.DescentLaws.{changes_one_page, leaf_names_page}
 
@@ -35,6 +35,10 @@ call_changes_map outside space owner old last new page node key taken held is_sp
           stay = λ other is apart. (released.1 other (between other is)).0;
           maps = λ other is apart. (released.1 other (between other is)).1 ∙ one.others other (with_leaf old [] key fits other is) apart;
         };
+        roots = λ other is.
+            let r = released.2 other is in
+            let p = one.roots other r.was in
+            record { was = tail_space old key [] other p.was; owner = r.owner ∙ p.owner; keeper = r.keeper ∙ p.keeper };
       },
       one.few,
     )
@@ -51,6 +55,15 @@ none_of : {X : Type 0} (o : Option X) → (IsSome o → ⊥) → o ≡ None
 none_of None h = refl
 none_of (Some x) h = absurd (h refl)
 
+-- a space stays one where the root of another one is in hand
+pub root_in_hand : (forest : Forest) (space other : ℕ) → IsSpace forest [] other → other ≢ space → IsSpace forest (space_key space ∷ []) other
+root_in_hand forest space other is apart = record {
+  owned = is.owned;
+  unnamed = is.unnamed;
+  not_in_hand = no_name (space_key space) [] (NodeObject other) (not_named (space_key space) (NodeObject other)
+      (λ h. apart (let same : other ≡ space = cc in same))) ∙ is.not_in_hand;
+}
+
 pub call_drops_space : CallDropsSpace
 call_drops_space outside space old new held once release =
     let released = release_keeps_spaces old new outside (space_key space ∷ []) [] held release in
@@ -65,16 +78,11 @@ call_drops_space outside space old new held once release =
             let hand = nothing_in_hand (NodeObject space) in
             omega arith);
         others = record {
-          stay = λ other is apart. (released.1 other (in_hand_now other is apart)).0;
-          maps = λ other is apart. (released.1 other (in_hand_now other is apart)).1;
+          stay = λ other is apart. (released.1 other (root_in_hand old space other is apart)).0;
+          maps = λ other is apart. (released.1 other (root_in_hand old space other is apart)).1;
         };
+        roots = λ other is.
+            let r = released.2 other is in
+            record { was = tail_space old (space_key space) [] other r.was; owner = r.owner; keeper = r.keeper };
       },
     )
-  where
-    in_hand_now : (other : ℕ) → IsSpace old [] other → other ≢ space → IsSpace old (space_key space ∷ []) other
-    in_hand_now other is apart = record {
-      owned = is.owned;
-      unnamed = is.unnamed;
-      not_in_hand = no_name (space_key space) [] (NodeObject other) (not_named (space_key space) (NodeObject other)
-          (λ h. apart (let same : other ≡ space = cc in same))) ∙ is.not_in_hand;
-    }

@@ -7,16 +7,16 @@ use Rattle.kn_base.specs.declared.key.Key.{Key}
 use Rattle.kn_base.specs.declared.key.Key.TheVariants.{Page, Segment}
 use Rattle.unix_model.specs.Tables.{at, with_at}
 use Rattle.unix_model.proofs.TableLaws.{at-with_at, at-with_at-other}
-use Rattle.forest.proofs.ExactLaws.{not_named}
+use Rattle.forest.proofs.ExactLaws.{not_named, spaces_back}
 use Rattle.forest.specs.Objects.{Object, NodeObject, Owner, named}
 use Rattle.forest.specs.Walks.{place_of, key_below, key_along, space_key, IsWay, mapping_of, map_of, digits}
 use Rattle.forest.specs.Forest.{Forest, IsSpace, OwnWay, CountedOnce, EndsAt, FitsBelow, FitsUnder, key_height, Held, top_digit, node_way}
-use Rattle.forest.specs.Changes.{with_copy, with_fresh, with_key, IsFree, MayStand, BelongsAt}
+use Rattle.forest.specs.Changes.{with_copy, with_fresh, filled, with_key, IsFree, MayStand, BelongsAt}
 use Rattle.forest.specs.Descent.{MadeOwn, root, kept, copied}
 use Rattle.forest.specs.Laws.{MakesWayOwn, PageMayStand, ChangesOnePage}
 use Rattle.forest.proofs.WalkLaws.{step}
 use Rattle.forest.proofs.OwnLaws.{alone_way}
-use Rattle.forest.proofs.MapLaws.{node_key, fresh_keeps_maps, page_no_node}
+use Rattle.forest.proofs.MapLaws.{at-filled-other, node_key, fresh_keeps_maps, page_no_node}
 use Rattle.forest.proofs.OwnMaps.{way_of_node, length-node_way, page_way-parts, OwnEnd, own_end, short_way, this_way, write_changes_one_map}
 use Rattle.forest.proofs.WriteHeld.{write_keeps_held}
 use Rattle.forest.proofs.CopyLaws.{free_unnamed, end_owned, counted_once, once, copy_makes_own}
@@ -151,6 +151,16 @@ module _ (forest : Forest) (outside : Object → ℕ) (hand : List Key) (space :
       (λ e. node_not_fresh (sym the_node ∙ e)) no_page other
       (λ e. some_not_none (forest.owner (NodeObject other)) is.owned (ap (λ n. forest.owner (NodeObject n)) e ∙ free.unowned))
 
+  copy_keeper : (other : ℕ) → IsSpace forest hand other
+      → at (with_fresh forest.keys (place_of node digit) fresh (4 - length way)) (place_of other 15) ≡ at forest.keys (place_of other 15)
+  copy_keeper other is =
+      let its_place : place_of other 15 / 16 ≡ other = omega arith in
+      at-with_at-other (filled forest.keys fresh (key_below forest.keys (at forest.keys (place_of node digit)))) (place_of node digit) (place_of other 15)
+      (Segment (record { 0 = fresh }) (4 - length way))
+      (λ t. let same : other ≡ node = omega arith in let fits = root_fits way ends top (subst (IsSpace forest hand) same is) in let low = fits.0 in omega arith)
+      ∙ at-filled-other forest.keys (key_below forest.keys (at forest.keys (place_of node digit))) fresh (place_of other 15)
+      (λ t. some_not_none (forest.owner (NodeObject other)) is.owned (ap (λ n. forest.owner (NodeObject n)) (sym its_place ∙ t) ∙ free.unowned))
+
 -- what going down a way leaves
 pub record Descended (outside : Object → ℕ) (hand : List Key) (space : ℕ) (owner : Owner) (first last : Forest) (way : List ℕ) (taken : ℕ) : Type 0 where
   pub end : AtEnd last outside hand space owner way
@@ -159,6 +169,7 @@ pub record Descended (outside : Object → ℕ) (hand : List Key) (space : ℕ) 
   pub spaces : (other : ℕ) → IsSpace first hand other ↔ IsSpace last hand other
   pub maps : (other : ℕ) → IsSpace first hand other → map_of last.keys other ≡ map_of first.keys other
   pub owners : (object : Object) → IsSome (first.owner object) → last.owner object ≡ first.owner object
+  pub keepers : (other : ℕ) → IsSpace first hand other → at last.keys (place_of other 15) ≡ at first.keys (place_of other 15)
   pub few : taken ≤ length way
   pub unchanged : OwnWay first space way → (taken ≡ 0) × (last ≡ first)
 
@@ -177,6 +188,7 @@ descend outside hand space owner (root {first}) start is_way short top = record 
   spaces = λ other. (λ is. is, λ is. is);
   maps = λ other is. refl;
   owners = λ object some. refl;
+  keepers = λ other is. refl;
   few = omega arith;
   unchanged = λ own. (refl, refl);
 }
@@ -200,6 +212,7 @@ descend outside hand space owner (kept {first} {last} {way} {taken} digit above 
       spaces = d.spaces;
       maps = d.maps;
       owners = d.owners;
+      keepers = d.keepers;
       few = omega arith;
       unchanged = λ own. d.unchanged own.1;
     }
@@ -208,6 +221,7 @@ descend outside hand space owner (copied {first} {last} {way} {taken} digit node
     let less : length way < 4 = omega arith in
     let held = copy_held last outside hand space owner way d.end node digit fresh ends is_way.0 less top free within shared in
     let maps = copy_maps last outside hand space owner way d.end node digit fresh ends is_way.0 less top free in
+    let keeper = copy_keeper last outside hand space owner way d.end node digit fresh ends is_way.0 less top free in
     let own = copy_makes_own last outside hand space node digit fresh (4 - length way) way owner d.end.held.sound d.end.held.exact d.end.is_space free
     is_way.1 is_way.0 d.end.own ends in
     let few = d.few in
@@ -228,6 +242,7 @@ descend outside hand space owner (copied {first} {last} {way} {taken} digit node
           other_object last.owner (NodeObject fresh) (Some owner) object
           (λ t. some_not_none (first.owner object) some (sym (d.owners object some) ∙ ap last.owner t ∙ free.unowned))
           ∙ d.owners object some;
+      keepers = λ other is. keeper other ((d.spaces other).0 is) ∙ d.keepers other is;
       few = omega arith;
       unchanged = λ own_first.
           let same = (d.unchanged own_first.1).1 in
@@ -246,6 +261,7 @@ makes_way_own outside hand space owner first last way taken held is_space space_
       spaces = d.spaces;
       maps = d.maps;
       owners = d.owners;
+      keepers = d.keepers;
       few = d.few;
       unchanged = d.unchanged;
     }
@@ -337,11 +353,25 @@ changes_one_page outside hand space owner first last page node key taken held is
     let one = write_changes_one_map last outside (key ∷ hand) space page node key d.end.held.sound d.end.held.exact d.end.is_space below d.end.own ends in
     let end = own_end last outside (key ∷ hand) space node (node_way page) d.end.held.sound d.end.held.exact d.end.is_space (way_of_node page) d.end.own ends in
     let few = d.few in
+    let written = write_keeps_held last outside hand (place_of node (page % 16)) key d.end.held may belongs in
+    let back = λ (other : ℕ) (is : IsSpace (with_key last (place_of node (page % 16)) key) (at last.keys (place_of node (page % 16)) ∷ hand) other).
+    spaces_back last (with_key last (place_of node (page % 16)) key) outside (key ∷ hand) (at last.keys (place_of node (page % 16)) ∷ hand) d.end.held.apart written.exact written.alive
+    (λ object some out. some) other is in
     record {
-      held = write_keeps_held last outside hand (place_of node (page % 16)) key d.end.held may belongs;
+      held = written;
       here = one.0 ∙ ap (λ map. with_at map page (mapping_of key)) (d.maps space is_space);
       others = λ other is apart. one.1 other ((d.spaces other).0 is) apart ∙ d.maps other is;
       spaces = λ other is. space_written last hand (place_of node (page % 16)) key fits other ((d.spaces other).0 is);
+      roots = λ other is.
+          let was = (d.spaces other).1 (back other is) in
+          record {
+            was = was;
+            owner = d.owners (NodeObject other) was.owned;
+            keeper = at-with_at-other last.keys (place_of node (page % 16)) (place_of other 15) key
+                (λ t. let same : other ≡ node = omega arith in
+                not_space last (key ∷ hand) space node (node_way page) (omega arith) ends (subst (IsSpace last (key ∷ hand)) same (back other is)))
+                ∙ d.keepers other was;
+          };
       few = omega arith;
       own = λ counted.
           let o = once last key counted in

@@ -17,6 +17,7 @@ pub mod PruneLaws
 pub mod ShareLaws
 pub mod ThinLaws
 pub mod RootLaws
+pub mod KeptWays
 pub mod CallLaws
 pub mod AloneLaws
 pub mod EmptyLaws

@@ -1,5 +1,5 @@
 -- Pruning a node that has become empty.
-use Rattle.std.proofs.Common.{◌≡◌, ◌≢◌, ◌<◌, ◌/◌, ◌%◌, ℕ, Some, None, List, ◌∷◌, ap, ◌∙◌, arith, ⊎_elim}
+use Rattle.std.proofs.Common.{◌≡◌, ◌≢◌, ◌<◌, ◌/◌, ◌%◌, ℕ, Some, None, List, ◌∷◌, ap, sym, ◌∙◌, arith, ⊎_elim}
 use Rattle.std.proofs.lemmas.Bool.{cases_eq}
 use Rattle.kn_base.specs.declared.key.Key.{Key}
 use Rattle.kn_base.specs.declared.key.Key.TheVariants.{Null}
@@ -11,7 +11,7 @@ use Rattle.forest.specs.Forest.{Forest, Held, IsSpace}
 use Rattle.forest.specs.Changes.{with_key, with_given, MayStand}
 use Rattle.forest.specs.Release.{Release, empty_node, done, more}
 use Rattle.forest.specs.Laws.{PruneKeepsMaps}
-use Rattle.forest.proofs.ExactLaws.{not_named}
+use Rattle.forest.proofs.ExactLaws.{not_named, spaces_back}
 use Rattle.forest.proofs.OwnLaws.{owned_node}
 use Rattle.forest.proofs.MapLaws.{detach_keeps_maps}
 use Rattle.forest.proofs.ReleaseLaws.{fits_null, no_name, taken_named, release_keeps_spaces}
@@ -68,4 +68,15 @@ prune_keeps_maps forest outside hand place node held e once empty =
         (released.1 space (space_between forest outside hand place node held e once empty space is)).0,
         detach_keeps_maps forest.keys place node e empty space,
       ),
+      λ space is.
+          let r = released.2 space is in
+          let taken = taken_out forest outside hand place node held e once empty in
+          let was = spaces_back forest (with_key forest place Null) outside hand (at forest.keys place ∷ hand) held.apart taken.exact taken.alive (λ object some out. some) space r.was in
+          record {
+            was = was;
+            owner = r.owner;
+            keeper = r.keeper ∙ at-with_at-other forest.keys place (place_of space 15) Null (λ t.
+                let root = held.rooted space was in
+                let contra : None ≡ Some (NodeObject node) = sym root.keeper ∙ ap (λ p. named (at forest.keys p)) t ∙ e in cc);
+          },
     )

@@ -81,6 +81,7 @@ record StepKeeps (old new : Forest) (outside : Object → ℕ) (old_hand new_han
       → key_along new.keys (space_key space) way ≡ key_along old.keys (space_key space) way
   lost : (object : Object) → IsSome (old.owner object) → new.owner object ≡ None → outside object ≡ 0
   never : (object : Object) → old.owner object ≡ None → new.owner object ≡ None
+  owners : (object : Object) → IsSome (new.owner object) → new.owner object ≡ old.owner object
   unnamed : (object : Object) → NobodyNames old.keys object → NobodyNames new.keys object
   filled : NoneEmpty old.keys → NoneEmpty new.keys
 
@@ -93,7 +94,7 @@ no_name key hand object e =
     let zero_more : bit (names object key) ≡ 0 = ap bit e in
     omega arith
 
-tail_space : (forest : Forest) (key : Key) (hand : List Key) (space : ℕ) → IsSpace forest (key ∷ hand) space → IsSpace forest hand space
+pub tail_space : (forest : Forest) (key : Key) (hand : List Key) (space : ℕ) → IsSpace forest (key ∷ hand) space → IsSpace forest hand space
 tail_space forest key hand space is = record {
   owned = is.owned;
   unnamed = is.unnamed;
@@ -122,6 +123,7 @@ nothing_keeps forest outside key hand held none = record {
   keys = λ space is way w. refl;
   lost = λ object some none. absurd (some_not_none (forest.owner object) some none);
   never = λ object none. none;
+  owners = λ object some. refl;
   unnamed = λ object nobody. nobody;
   filled = λ none. none;
 }
@@ -145,6 +147,7 @@ shared_keeps forest outside key hand object held e two = record {
   keys = λ space is way w. refl;
   lost = λ other some none. absurd (some_not_none (forest.owner other) some none);
   never = λ other none. none;
+  owners = λ other some. refl;
   unnamed = λ other nobody. nobody;
   filled = λ none. none;
 }
@@ -235,6 +238,10 @@ given_keeps forest outside key hand object held e once empty =
       lost = λ other some none. ⊎_elim
           (λ (t : other ≡ object). ap outside t ∙ last.none_outside)
           (λ (t : other ≢ object). absurd (some_not_none (forest.owner other) some (sym (same_owner forest object other t) ∙ none)))
+          (is_or_not other object);
+      owners = λ other some. ⊎_elim
+          (λ (t : other ≡ object). absurd (some_not_none ((with_given forest object).owner other) some (ap (with_given forest object).owner t ∙ none_now)))
+          (λ (t : other ≢ object). same_owner forest object other t)
           (is_or_not other object);
       unnamed = λ other nobody. nobody;
       filled = λ none. none;
@@ -338,6 +345,7 @@ take_out_keeps forest outside key hand node digit held e once below =
           omega arith) way w;
       lost = λ object some none. absurd (some_not_none (forest.owner object) some none);
       never = λ object none. none;
+      owners = λ object some. refl;
       unnamed = λ object nobody p h. nobody p (taken_named forest.keys (place_of node digit) p object h);
       filled = λ none p m h. taken_filled forest.keys node digit below m (λ e. last.nobody p (taken_named forest.keys (place_of node digit) p (NodeObject m) h ∙ ap (λ n. Some (NodeObject n)) e)) (none p m (taken_named forest.keys (place_of node digit) p (NodeObject m) h));
     }
@@ -365,6 +373,7 @@ keeps_all old next new outside old_hand next_hand new_hand a b = record {
   keys = λ space is way w. b.keys space (a.spaces space is) way w ∙ a.keys space is way w;
   lost = λ object some none. lost_next object some none (next.owner object) refl;
   never = λ object none. b.never object (a.never object none);
+  owners = λ object some. b.owners object some ∙ a.owners object (ap is_some (sym (b.owners object some)) ∙ some);
   unnamed = λ object nobody. b.unnamed object (a.unnamed object nobody);
   filled = λ none. b.filled (a.filled none);
 }
@@ -381,6 +390,7 @@ release_keeps outside (done {forest} {hand}) held = record {
   keys = λ space is way w. refl;
   lost = λ object some none. absurd (some_not_none (forest.owner object) some none);
   never = λ object none. none;
+  owners = λ object some. refl;
   unnamed = λ object nobody. nobody;
   filled = λ none. none;
 }
@@ -401,20 +411,29 @@ pub release_unnamed : (old new : Forest) (outside : Object → ℕ) (old_hand ne
     → (object : Object) → NobodyNames old.keys object → NobodyNames new.keys object
 release_unnamed old new outside old_hand new_hand held r object nobody = (release_keeps outside r held).unnamed object nobody
 
+-- the keys along each way of a space stay
+pub release_keys : (old new : Forest) (outside : Object → ℕ) (old_hand new_hand : List Key) → Counted old outside old_hand → Release old old_hand new new_hand
+    → (space : ℕ) → IsSpace old old_hand space → (way : List ℕ) → IsWay way → key_along new.keys (space_key space) way ≡ key_along old.keys (space_key space) way
+release_keys old new outside old_hand new_hand held r = (release_keeps outside r held).keys
+
 pub release_keeps_spaces : ReleaseKeepsSpaces
 release_keeps_spaces old new outside old_hand new_hand held r =
-    let k = release_keeps outside r held.counts in (
+    let k = release_keeps outside r held.counts in
+    let back = λ (space : ℕ) (is : IsSpace new new_hand space).
+    spaces_back old new outside old_hand new_hand held.apart k.held.exact k.held.alive (λ object some out. ap is_some (sym (k.owners object some)) ∙ some) space is in (
       record {
         counts = k.held;
-        rooted = λ space is.
-            let was = spaces_back old new outside old_hand new_hand held.apart k.held.exact k.held.alive
-            (λ object some out. none_or_some (old.owner object) (λ none. some_not_none (new.owner object) some (k.never object none))) space is in
-            same_root old.keys new.keys space (λ digit below. k.keys space was (digit ∷ []) (below, tt)) (held.rooted space was);
+        rooted = λ space is. same_root old.keys new.keys space (λ digit below. k.keys space (back space is) (digit ∷ []) (below, tt)) (held.rooted space (back space is));
       },
       λ space is. (
         k.spaces space is,
         same_map old.keys new.keys space space (λ page below. ap mapping_of (k.keys space is (page_way page) (way_of_page page))),
       ),
+      λ space is. record {
+        was = back space is;
+        owner = k.owners (NodeObject space) is.owned;
+        keeper = k.keys space (back space is) (15 ∷ []) (omega arith, tt);
+      },
     )
 
 pub release_gives_unnamed : ReleaseGivesUnnamed

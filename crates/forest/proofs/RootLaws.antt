@@ -8,14 +8,18 @@ use Rattle.kn_base.specs.declared.key.Key.TheVariants.{Null}
 use Rattle.unix_model.specs.Tables.{at}
 use Rattle.forest.specs.Objects.{Object, NodeObject, named}
 use Rattle.forest.specs.Walks.{place_of, key_along, space_key, digits, Mapping, map_of, key_at_page}
-use Rattle.forest.specs.Forest.{Forest, Sound, Held, NobodyNames}
-use Rattle.forest.specs.Changes.{and_outside, filled, WithRoot}
+use Rattle.forest.specs.Forest.{Forest, Sound, Held, IsSpace, NobodyNames}
+use Rattle.forest.specs.Changes.{and_outside, filled, WithRoot, KeepsRoot}
 use Rattle.forest.specs.Calls.{KeepsOthers, AddsSpace}
 use Rattle.forest.specs.Laws.{CallSharesSpace, CallAddsSpace}
 use Rattle.forest.proofs.CountLaws.{same_object-same}
 use Rattle.forest.proofs.MapLaws.{at-filled, at-filled-other, page_parts, unnamed_keeps_maps, share_keeps_maps}
 use Rattle.forest.proofs.CopyLaws.{free_unnamed}
 use Rattle.forest.proofs.ReachLaws.{nothing_in_hand}
+
+-- a root that is kept twice is kept
+pub root_trans : (old mid new : Forest) (before between : List Key) (space : ℕ) → KeepsRoot old mid before space → KeepsRoot mid new between space → KeepsRoot old new before space
+root_trans old mid new before between space first second = record { was = first.was; owner = second.owner ∙ first.owner; keeper = second.keeper ∙ first.keeper }
 
 root_out : (outside : Object → ℕ) (fresh : ℕ) → 1 ≤ and_outside outside (space_key fresh) (NodeObject fresh)
 unfolding and_outside
@@ -54,12 +58,31 @@ module _ (outside : Object → ℕ) (fresh : ℕ) (old new : Forest) (content : 
     maps = λ other is apart. ap (λ keys. map_of keys other) c.keys ∙ unnamed_keeps_maps old.keys content fresh nobody other apart;
   }
 
+  roots : (other : ℕ) → IsSpace new [] other → other ≢ fresh → KeepsRoot old new [] other
+  roots other is apart =
+      let owner = c.same_owners (NodeObject other) (λ e. apart (let same : other ≡ fresh = cc in same)) in
+      record {
+        was = record {
+          owned = ap is_some (sym owner) ∙ is.owned;
+          unnamed = λ place h. ⊎_elim
+              (λ (t : place / 16 ≡ fresh).
+              let contra : None ≡ Some (NodeObject other) = sym (ap named (sound.masked place (ap (λ n. old.owner (NodeObject n)) t ∙ c.was_free))) ∙ h in cc)
+              (λ (t : place / 16 ≢ fresh). is.unnamed place (ap (λ keys. named (at keys place)) c.keys ∙ ap named (at-filled-other old.keys content fresh place t) ∙ h))
+              (cases_eq (place / 16) fresh);
+          not_in_hand = is.not_in_hand;
+        };
+        owner = owner;
+        keeper = ap (λ keys. at keys (place_of other 15)) c.keys
+            ∙ at-filled-other old.keys content fresh (place_of other 15) (λ t. apart (let same : other ≡ fresh = omega arith in same));
+      }
+
   added : (map : ℕ → Option Mapping) → map_of (filled old.keys fresh content) fresh ≡ map → AddsSpace old new fresh map
   added map e = record {
     fresh = c.was_free;
     is_space = record { owned = c.now_owned; unnamed = (held.apart (NodeObject fresh) (root_out outside fresh)).0; not_in_hand = nothing_in_hand (NodeObject fresh) };
     here = ap (λ keys. map_of keys fresh) c.keys ∙ e;
     others = others;
+    roots = roots;
   }
 
 pub call_shares_space : CallSharesSpace

@@ -6,29 +6,35 @@ use Rattle.unix_model.specs.Tables.{at}
 use Rattle.forest.specs.Objects.{NodeObject, named}
 use Rattle.forest.specs.Walks.{Mapping, map_of, place_of}
 use Rattle.forest.specs.Forest.{Forest, IsSpace, FitsUnder, IsFilled}
+use Rattle.forest.specs.Changes.{KeepsRoot}
 
 -- every other space stays one and keeps its map
 pub record KeepsOthers (old new : Forest) (space : ℕ) : Type 0 where
   pub stay : (other : ℕ) → IsSpace old [] other → other ≢ space → IsSpace new [] other
   pub maps : (other : ℕ) → IsSpace old [] other → other ≢ space → map_of new.keys other ≡ map_of old.keys other
 
--- a space stays one and has this map now, and every other one keeps its own
+-- A space stays one and has this map now, and every other one keeps its own. No space is new, and each root has the owner and the
+-- keeper's key that it had.
 pub record ChangesMap (old new : Forest) (space : ℕ) (map : ℕ → Option Mapping) : Type 0 where
   pub stays : IsSpace new [] space
   pub here : map_of new.keys space ≡ map
   pub others : KeepsOthers old new space
+  pub roots : (other : ℕ) → IsSpace new [] other → KeepsRoot old new [] other
 
--- a node that belonged to no tree is a space and has this map, and every other space keeps its own
+-- A node that belonged to no tree is a space and has this map. Every other space keeps its own, and was there before, with the owner
+-- and the keeper's key that it has.
 pub record AddsSpace (old new : Forest) (space : ℕ) (map : ℕ → Option Mapping) : Type 0 where
   pub fresh : old.owner (NodeObject space) ≡ None
   pub is_space : IsSpace new [] space
   pub here : map_of new.keys space ≡ map
   pub others : KeepsOthers old new space
+  pub roots : (other : ℕ) → IsSpace new [] other → other ≢ space → KeepsRoot old new [] other
 
--- a space is no more, and every other one keeps its map
+-- A space is no more, and every other one keeps its map. No space is new, and each root has the owner and the keeper's key that it had.
 pub record DropsSpace (old new : Forest) (space : ℕ) : Type 0 where
   pub gone : new.owner (NodeObject space) ≡ None
   pub others : KeepsOthers old new space
+  pub roots : (other : ℕ) → IsSpace new [] other → KeepsRoot old new [] other
 
 -- A page is own in a space where it is mapped there, isn't the page of zeros, and no other space and no other page number
 -- reaches it.

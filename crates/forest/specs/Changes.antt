@@ -4,7 +4,7 @@ use Rattle.kn_base.specs.declared.key.Key.{Key}
 use Rattle.kn_base.specs.declared.key.Key.TheVariants.{Segment}
 use Rattle.unix_model.specs.Tables.{at, with_at, count_below}
 use Rattle.forest.specs.Objects.{Object, NodeObject, Owner, named, names, with_object}
-use Rattle.forest.specs.Walks.{key_below}
+use Rattle.forest.specs.Walks.{key_below, place_of}
 use Rattle.forest.specs.Forest.{Forest, in_hand, IsSpace, FitsBelow, FitsUnder, key_height}
 
 -- the forest with another stored count of an object
@@ -90,6 +90,12 @@ pub record MayStand (forest : Forest) (hand : List Key) (place : ℕ) (key : Key
 pub record BelongsAt (forest : Forest) (place : ℕ) (key : Key) : Type 0 where
   pub same_owner : (object : Object) → named key ≡ Some object → forest.owner object ≡ forest.owner (NodeObject (place / 16))
   pub heights : (digit : ℕ) → digit < 16 → FitsBelow key (key_below forest.keys key digit)
+
+-- A space was one before, with what was in hand then, and its root has the owner and the keeper's key that it had.
+pub record KeepsRoot (old new : Forest) (hand : List Key) (space : ℕ) : Type 0 where
+  pub was : IsSpace old hand space
+  pub owner : new.owner (NodeObject space) ≡ old.owner (NodeObject space)
+  pub keeper : at new.keys (place_of space 15) ≡ at old.keys (place_of space 15)
 
 -- A fresh root was added: it belongs to a tree and has these sixteen keys, of which the last eight name nothing, and all
 -- else has stayed.

@@ -6,7 +6,7 @@ use Rattle.unix_model.specs.Tables.{at, with_at, count_below, sum_below}
 use Rattle.forest.specs.Objects.{Object, PageObject, NodeObject, Owner, named, with_object}
 use Rattle.forest.specs.Walks.{key_below, IsWay, page_way, Mapping, mapping_of, map_of, place_of, space_key}
 use Rattle.forest.specs.Forest.{Forest, Exact, Sound, IsSpace, OwnWay, EndsAt, NobodyNames, in_hand, namings, node_way, FitsBelow, FitsUnder, key_height, IsRoot, masked, IsFilled, NoneEmpty, NoneEmptyBut, Held, NoPageOutside, top_digit}
-use Rattle.forest.specs.Changes.{raised, lowered, with_key, with_taken, with_given, and_outside, filled, with_fresh, with_copy, IsFree, MayStand, BelongsAt, WithRoot}
+use Rattle.forest.specs.Changes.{raised, lowered, with_key, with_taken, with_given, and_outside, filled, with_fresh, with_copy, IsFree, MayStand, BelongsAt, WithRoot, KeepsRoot}
 use Rattle.forest.specs.Descent.{MadeOwn, IsMadeOwn, IsPageChanged}
 use Rattle.forest.specs.Release.{Release, Thins}
 use Rattle.forest.specs.Labels.{IsIn, different, labels, TellsAlike, shared_page, IsProcessSpace, places_of, is_process}
@@ -151,13 +151,14 @@ MakesWayOwn =
     → MadeOwn outside hand space owner first way last taken
     → IsMadeOwn outside hand space first last way taken
 
--- Releasing keeps counts exact, and leaves every other space its map.
+-- Releasing keeps counts exact, and leaves every other space its map and its root. No space is new.
 abbrev pub ReleaseKeepsSpaces : Type 0
 ReleaseKeepsSpaces =
     (old new : Forest) (outside : Object → ℕ) (old_hand new_hand : List Key)
     → Held old outside old_hand → Release old old_hand new new_hand
     → Held new outside new_hand
     × ((space : ℕ) → IsSpace old old_hand space → IsSpace new new_hand space × (map_of new.keys space ≡ map_of old.keys space))
+    × ((space : ℕ) → IsSpace new new_hand space → KeepsRoot old new old_hand space)
 
 -- Releasing gives back exactly what nothing names any more.
 abbrev pub ReleaseGivesUnnamed : Type 0
@@ -166,6 +167,13 @@ ReleaseGivesUnnamed =
     → Held old outside old_hand → Release old old_hand new new_hand
     → (object : Object) → IsSome (old.owner object)
     → IsSome (new.owner object) ↔ (1 ≤ namings new object + outside object + in_hand new_hand object)
+
+-- And each way in a space that was its own stays so.
+abbrev pub ReleaseKeepsWays : Type 0
+ReleaseKeepsWays =
+    (old new : Forest) (outside : Object → ℕ) (old_hand new_hand : List Key) (space : ℕ) (way : List ℕ)
+    → Held old outside old_hand → Release old old_hand new new_hand → IsSpace old old_hand space
+    → IsWay way → OwnWay old space way → OwnWay new space way
 
 -- Releasing goes down: a key that is taken out of a node stands lower than the node's own key.
 abbrev pub ReleaseGoesDown : Type 0
@@ -306,7 +314,7 @@ ChangesOnePage =
     (with_key last (place_of node (page % 16)) key) taken
 
 -- A node that has become empty is pruned: its key is taken from its place, and it is given back. All spaces stay, and keep
--- their maps.
+-- their maps and their roots, and none is new.
 abbrev pub PruneKeepsMaps : Type 0
 PruneKeepsMaps =
     (forest : Forest) (outside : Object → ℕ) (hand : List Key) (place node : ℕ)
@@ -316,6 +324,8 @@ PruneKeepsMaps =
     × ((space : ℕ) → IsSpace forest hand space
     → IsSpace (with_given (with_key forest place Null) (NodeObject node)) hand space
     × (map_of (with_given (with_key forest place Null) (NodeObject node)).keys space ≡ map_of forest.keys space))
+    × ((space : ℕ) → IsSpace (with_given (with_key forest place Null) (NodeObject node)) hand space
+    → KeepsRoot forest (with_given (with_key forest place Null) (NodeObject node)) hand space)
 
 -- A key of a tree is copied to an empty place of a fresh root in hand: what it names is counted once more.
 abbrev pub ShareKeepsHeld : Type 0

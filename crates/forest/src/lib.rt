@@ -45,5 +45,6 @@ pub use reach::{
     taken_is_different,
 };
 pub use release::{
-    release_gives_unnamed, release_goes_down, release_keeps_spaces, release_thins, release_trans,
+    release_gives_unnamed, release_goes_down, release_keeps_spaces, release_keeps_ways,
+    release_thins, release_trans,
 };

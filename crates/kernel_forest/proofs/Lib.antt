@@ -1,5 +1,6 @@
 pub mod Bridge
 pub mod RowLaws
+pub mod ApartLaws
 pub mod Outside
 pub mod Moves
 pub mod InTrees

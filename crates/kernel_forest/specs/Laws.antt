@@ -1,5 +1,5 @@
 -- The laws that tie the bank's counts to the forest's, each as one statement.
-use Rattle.std.specs.Prelude.{◌≡◌, ◌≢◌, ℕ, ◌-◌, ◌<◌, ◌≤◌, Bool, Some, None, IsSome, List, [], ◌∷◌, ◌+◌, ◌*◌, true}
+use Rattle.std.specs.Prelude.{slice_index_or, None, ◌↔◌, ◌≡◌, ◌≢◌, ℕ, ◌-◌, ◌<◌, ◌≤◌, Bool, Some, None, IsSome, List, [], ◌∷◌, ◌+◌, ◌*◌, true}
 use Rattle.kn_base.specs.declared.key.Key.{Key}
 use Rattle.kn_base.specs.declared.key.Key.TheVariants.{Null, Page, Segment}
 use Rattle.kn_base.specs.declared.key.NodeId.{NodeId}
@@ -20,6 +20,8 @@ use Rattle.forest.specs.Walks.{place_of, space_key}
 use Rattle.forest.specs.Forest.{Exact, IsSpace}
 use Rattle.forest.specs.Changes.{and_outside as and_outside_trees}
 use Rattle.kernel_forest.specs.Trees.{forest_of, outside_trees, page_tree, node_tree, IsTreeKey, AreTreeKeys, TreesGood}
+use Rattle.kernel_forest.specs.Apart.{KeepsApart}
+use Rattle.kernel_tables.specs.declared.entry.Entry.TheVariants.{Taken}
 use Rattle.kernel_forest.specs.Moves.{RaisesKey, PutsKey, TakesFresh, TakesFreshPage, LowersKey, TakesRow, PutsRow, GivesRow}
 use Rattle.kernel_forest.specs.Releases.{InHand, Lets}
 
@@ -162,3 +164,17 @@ GivesNode =
     → (forest_of old).count (NodeObject node.0) ≡ 1
     → new ≡ node_given old node.0 → TakesNodeOutOfHand old new node.0
     → Lets old new (Segment node height ∷ []) []
+
+-- What is taken for something else than a tree stays so, with its count, and nothing else comes to be: a page, which keeps its
+-- bytes, ..
+abbrev pub PageStaysApart : Type 0
+PageStaysApart =
+    (old new : Kernel) (n : ℕ) (owner : PageOwner) (count : ℕ) → KeepsApart old new → page_tree owner ≡ None
+    → ((entry_at old.page_entries n ≡ Taken owner count) ↔ (entry_at new.page_entries n ≡ Taken owner count))
+    × (entry_at old.page_entries n ≡ Taken owner count → slice_index_or new.bank n [] ≡ slice_index_or old.bank n [])
+
+-- .. or a node.
+abbrev pub NodeStaysApart : Type 0
+NodeStaysApart =
+    (old new : Kernel) (n : ℕ) (owner : NodeOwner) (count : ℕ) → KeepsApart old new → node_tree owner ≡ None
+    → (entry_at old.node_entries n ≡ Taken owner count) ↔ (entry_at new.node_entries n ≡ Taken owner count)

@@ -1,5 +1,6 @@
 -- in reading order
 pub mod Trees
+pub mod Apart
 pub mod Moves
 pub mod Releases
 pub mod Laws

@@ -17,6 +17,7 @@ use Rattle.forest.specs.Objects.{Object, PageObject, NodeObject, Owner, named}
 use Rattle.forest.specs.Forest.{Forest}
 use Rattle.forest.specs.Changes.{raised, with_key, with_taken, lowered, IsFree}
 use Rattle.kernel_forest.specs.Trees.{forest_of, outside_trees, AreTreeKeys}
+use Rattle.kernel_forest.specs.Apart.{KeepsApart, KeepsSpelled}
 
 -- the trees have changed, and nothing else of the tables
 abbrev pub KeepsRest : Kernel → Kernel → Type 0
@@ -34,6 +35,8 @@ pub record Steps (old new : Kernel) (forest : Forest) (taken : ℕ) : Type 0 whe
   pub forest_now : forest_of new ≡ forest
   pub outside_now : (outside : Outside) → outside_trees new outside ≡ outside_trees old outside
   pub rows_now : KeepsRows old new
+  pub apart_now : KeepsApart old new
+  pub spelled_now : KeepsSpelled old new
   pub rest : KeepsRest old new
   pub number : new.machine.nodes_taken ≡ old.machine.nodes_taken + taken
 
@@ -78,6 +81,8 @@ pub record TakesFreshPage (old new : Kernel) (page : ℕ) (owner : Owner) : Type
   pub forest_now : forest_of new ≡ with_taken (forest_of old) (PageObject page) owner
   pub outside_now : (outside : Outside) → outside_trees new outside ≡ outside_trees old outside
   pub rows_now : KeepsRows old new
+  pub apart_now : KeepsApart old new
+  pub spelled_now : KeepsSpelled old new
   pub rest :
       new
       ≡ record old {

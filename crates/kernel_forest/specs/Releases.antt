@@ -8,6 +8,7 @@ use Rattle.forest.specs.Objects.{Object, PageObject}
 use Rattle.forest.specs.Forest.{Held}
 use Rattle.forest.specs.Release.{Release}
 use Rattle.kernel_forest.specs.Trees.{forest_of, outside_trees, AreTreeKeys}
+use Rattle.kernel_forest.specs.Apart.{KeepsApart, KeepsSpelled}
 
 -- what holds between steps of a release
 pub record Releasing (kernel : Kernel) (outside : Outside) (hand : List Key) : Type 0 where
@@ -46,6 +47,8 @@ pub record Lets (old new : Kernel) (before after : List Key) : Type 0 where
       → Releasing new outside (after ++ hand) × Release (forest_of old) (before ++ hand) (forest_of new) (after ++ hand)
   pub outside_now : (outside : Outside) → outside_trees new outside ≡ outside_trees old outside
   pub rows_now : KeepsRows old new
+  pub apart_now : KeepsApart old new
+  pub spelled_now : KeepsSpelled old new
   pub rest : KeepsUnreleased old new
   pub keeps : KeepsBytes old new
 

@@ -2,10 +2,12 @@
 //! together. This is the one place where both are spoken of.
 #![tactic(auto)]
 
+mod apart;
 mod changes;
 mod counts;
 mod releases;
 
+pub use apart::{node_stays_apart, page_stays_apart};
 pub use changes::{
     counts_node_less, counts_page_less, gives_domain_node, raises_tree_node, raises_tree_page,
     takes_domain_node, takes_tree_node, takes_tree_page, writes_row, writes_tree_key,

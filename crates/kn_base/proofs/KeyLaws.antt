@@ -1,5 +1,5 @@
 -- What is spelled is read back, and bytes that spell nothing are no key's spelling.
-use Rattle.std.proofs.Common.{◌≡◌, ◌≢◌, ◌<◌, ℕ, true, false, Option, Some, None, List, [], ◌∷◌, ◌++◌, refl, ap, sym, ◌∙◌, drop, arith, slice_get, slice_index, get_or, map, replicate, if◌then◌else◌, ◌%◌, ◌/◌, zero, suc, IfNone}
+use Rattle.std.proofs.Common.{◌≡◌, ◌≢◌, ◌<◌, ℕ, true, false, Option, Some, None, List, [], ◌∷◌, ◌++◌, refl, ap, sym, ◌∙◌, drop, arith, slice_get, slice_index, get_or, map, replicate, if◌then◌else◌, ◌%◌, ◌/◌, zero, suc, IfNone, IfSome, Bool, bytes_eq}
 use Rattle.std.proofs.lemmas.Nat.{from_le_bytes-to_le_bytes_4, from_le_bytes-to_le_bytes_8, le_bytes_4, le_bytes_8}
 use Rattle.std.proofs.lemmas.Slice.Eq.{bytes_eq-Decides}
 use Rattle.std.specs.Int.{from_le_bytes, to_le_bytes, w32, w64}
@@ -8,7 +8,7 @@ use Rattle.kn_base.specs.declared.key.Key.TheVariants.{Null, Number, Page, Node,
 use Rattle.kn_base.specs.Keys.{spelling, spelled_key, keys_by_kind, if_spelled, sixteen, KeyFits}
 
 -- the key of the kind that these bytes name
-abbrev key_by_kind : List ℕ → Option Key
+abbrev pub key_by_kind : List ℕ → Option Key
 key_by_kind bytes = slice_get (keys_by_kind (slice_index bytes 1) (drop 4 bytes)) (slice_index bytes 0)
 
 -- a spelling names its own key
@@ -127,5 +127,18 @@ no_spelling bytes none key h =
 pub none_spelled : (bytes : List ℕ) (read : Option Key) → read ≡ spelled_key bytes → IfNone read ((key : Key) → spelling key ≢ bytes)
 none_spelled bytes None h = no_spelling bytes (sym h)
 none_spelled bytes (Some key) h = tt
+
+-- and one that finds a key has found one that is spelled so
+spelled_if : (bytes : List ℕ) (read : Key) (test : Bool) → (test ≡ true → spelling read ≡ bytes) → IfSome (if test then Some read else None) (λ key. spelling key ≡ bytes)
+spelled_if bytes read true h = h refl
+spelled_if bytes read false h = tt
+
+spelled_there : (bytes : List ℕ) (read : Option Key) → IfSome (if_spelled bytes read) (λ key. spelling key ≡ bytes)
+spelled_there bytes None = tt
+spelled_there bytes (Some read) = spelled_if bytes read (bytes_eq (spelling read) bytes) (let d = bytes_eq-Decides (spelling read) bytes in d.0)
+
+pub spelled_so : (bytes : List ℕ) → IfSome (spelled_key bytes) (λ key. spelling key ≡ bytes)
+unfolding spelled_key
+spelled_so bytes = spelled_there bytes (key_by_kind bytes)
 
 pub ruleset key_laws = (spelled_key-spelling)

@@ -1,9 +1,9 @@
 //! Keys: what a program of this machine holds in place of a pointer.
 
-ghost use Rattle.std.specs.Prelude.{◌≡◌, ◌≢◌, ℕ, IfSome, IfNone, drop, slice_get};
-ghost use Rattle.std.specs.Int.{from_le_bytes, w32, w64};
+ghost use Rattle.std.specs.Prelude.{◌≡◌, ◌≢◌, ℕ, IfSome, IfNone, drop, [], ◌∷◌};
+ghost use Rattle.std.specs.Int.{to_le_bytes, w32, w64};
 ghost use Rattle.kn_base.specs.declared.key.Key.{Key};
-ghost use Rattle.kn_base.specs.Keys.{spelling, spelled_key, sixteen, word_body, counted_body, keys_by_kind, KeyFits};
+ghost use Rattle.kn_base.specs.Keys.{spelling, spelled_key, sixteen, word_body, counted_body, KeyFits};
 
 /// The number of a node of the store.
 #[derive(Clone, Copy, Debug, PartialEq, Eq)]
@@ -102,22 +102,17 @@ pub fn key_of(bytes: [u8; 16]) -> Option<Key>
     read_key(bytes)
 }
 
-// The key of the kind that the bytes name, if these bytes spell it.
-#[tactic(auto, unfolding(crate::specs::Keys::spelled_key))]
+// The key of the kind that the bytes name, if all that this kind does not use is zero.
 fn read_key(bytes: [u8; 16]) -> Option<Key>
-    ensures value { result ≡ spelled_key bytes }
-    ensures spelled_so { IfSome result (λ key. spelling key ≡ bytes) }
+    ensures { result ≡ spelled_key bytes }
 {
-    let [kind, side, ..] = bytes;
-    match key_by_kind(kind, side, body_in(bytes)) {
-        Some(key) => {
-            if bytes_of(key) == bytes {
-                Some(key)
-            } else {
-                None
-            }
-        }
-        None => None,
+    let [kind, side, low, high, a, b, c, d, e, f, g, h, i, j, k, l] = bytes;
+    let word = word_of(a, b, c, d);
+    let count = count_of(e, f, g, h, i, j, k, l);
+    if (low == 0) & (high == 0) {
+        key_in(kind, side, word, count, body_in(bytes))
+    } else {
+        None
     }
 }
 
@@ -130,54 +125,48 @@ fn body_in(bytes: [u8; 16]) -> [u8; 12]
     body
 }
 
-// The key of this kind with this side byte and this body, whatever the bytes are that the kind doesn't use.
-#[tactic(auto, unfolding(crate::specs::Keys::keys_by_kind))]
-fn key_by_kind(kind: u8, side: u8, body: [u8; 12]) -> Option<Key>
-    ensures { result ≡ slice_get (keys_by_kind side body) kind }
+// The word with these bytes.
+#[tactic(auto, using(crate::proofs::ReadLaws::number_laws))]
+fn word_of(a: u8, b: u8, c: u8, d: u8) -> u32
+    ensures { to_le_bytes w32 result ≡ a ∷ b ∷ c ∷ d ∷ [] }
 {
-    match kind {
-        0 => Some(Key::Null),
-        1 => Some(Key::Number(body)),
-        2 => Some(Key::Page {
-            id: PageId(word_in(body)),
-            writable: side == 1,
-        }),
-        3 => Some(Key::Node {
-            id: NodeId(word_in(body)),
-        }),
-        4 => Some(Key::Segment {
-            id: NodeId(word_in(body)),
-            height: side,
-        }),
-        5 => Some(Key::Start {
-            domain: NodeId(word_in(body)),
-            byte: side,
-        }),
-        6 => Some(Key::Resume {
-            domain: NodeId(word_in(body)),
-            count: count_in(body),
-        }),
-        7 => Some(Key::Domain {
-            id: NodeId(word_in(body)),
-        }),
-        8 => Some(Key::Meter { slot: side }),
-        9 => Some(Key::Service { code: side }),
-        _ => None,
-    }
-}
-
-// The first word of a body.
-fn word_in(body: [u8; 12]) -> u32
-    ensures { result ≡ from_le_bytes w32 body }
-{
-    let [a, b, c, d, ..] = body;
     u32::from_le_bytes([a, b, c, d])
 }
 
-// The count behind the first word of a body.
-fn count_in(body: [u8; 12]) -> u64
-    ensures { result ≡ from_le_bytes w64 (drop 4 body) }
+// The count with these bytes.
+#[tactic(auto, using(crate::proofs::ReadLaws::number_laws))]
+fn count_of(a: u8, b: u8, c: u8, d: u8, e: u8, f: u8, g: u8, h: u8) -> u64
+    ensures { to_le_bytes w64 result ≡ a ∷ b ∷ c ∷ d ∷ e ∷ f ∷ g ∷ h ∷ [] }
 {
-    let [_, _, _, _, a, b, c, d, e, f, g, h] = body;
     u64::from_le_bytes([a, b, c, d, e, f, g, h])
+}
+
+// The key of this kind with this side byte and a body of this word and this count. Where a kind does not use one of them, it
+// has to be zero. The body itself is for a number, which is copied and not put together again.
+#[tactic(auto, using(crate::proofs::ReadLaws::none_read))]
+fn key_in(kind: u8, side: u8, word: u32, count: u64, body: [u8; 12]) -> Option<Key>
+    requires { body ≡ counted_body word count }
+    ensures { result ≡ spelled_key (sixteen kind side (counted_body word count)) }
+{
+    let page = PageId(word);
+    let id = NodeId(word);
+    match kind {
+        0 => ((side == 0) & (word == 0) & (count == 0)).then_some(Key::Null),
+        1 => (side == 0).then_some(Key::Number(body)),
+        2 => ((side <= 1) & (count == 0)).then_some(Key::Page {
+            id: page,
+            writable: side == 1,
+        }),
+        3 => ((side == 0) & (count == 0)).then_some(Key::Node { id }),
+        4 => (count == 0).then_some(Key::Segment { id, height: side }),
+        5 => (count == 0).then_some(Key::Start {
+            domain: id,
+            byte: side,
+        }),
+        6 => (side == 0).then_some(Key::Resume { domain: id, count }),
+        7 => ((side == 0) & (count == 0)).then_some(Key::Domain { id }),
+        8 => ((word == 0) & (count == 0)).then_some(Key::Meter { slot: side }),
+        9 => ((word == 0) & (count == 0)).then_some(Key::Service { code: side }),
+        _ => None,
+    }
 }

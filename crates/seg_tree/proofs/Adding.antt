@@ -10,7 +10,7 @@ use Rattle.space_bank.specs.Shares.{Shares}
 use Rattle.space_bank.specs.Laws.{and_outside}
 use Rattle.space_bank.proofs.HandLaws.{handed-out}
 use Rattle.unix_model.specs.Tables.{at, with_at}
-use Rattle.forest.specs.Objects.{Object, NodeObject, Owner, named, names, with_object}
+use Rattle.forest.specs.Objects.{PageObject, Object, NodeObject, Owner, named, names, with_object}
 use Rattle.forest.specs.Walks.{place_of, key_below, space_key}
 use Rattle.forest.specs.Forest.{Forest, Sound, Held, IsRoot, FitsUnder, FitsBelow, NobodyNames, in_hand, key_height}
 use Rattle.forest.specs.Changes.{with_key, with_taken, filled, WithRoot, MayStand, BelongsAt, and_outside as and_outside_trees}
@@ -26,6 +26,11 @@ use Rattle.forest.proofs.EmptyLaws.{write_elsewhere_keeps_filled}
 use Rattle.forest.proofs.CountLaws.{true-names}
 use Rattle.forest.proofs.ExactLaws.{not_named}
 use Rattle.forest.specs.Forest.{NoneEmpty}
+use Rattle.forest.specs.Forest.{OwnWay, node_way}
+use Rattle.forest.proofs.KeptWays.{root_keeps_way}
+use Rattle.forest.proofs.OwnMaps.{way_of_node}
+use Rattle.seg_tree.specs.Ways.{KeepsWays}
+use Rattle.kernel_forest.proofs.ApartLaws.{inside_same}
 use Rattle.kernel_forest.proofs.InTrees.{AllTreeKeys, AllSingle, written_in_trees}
 use Rattle.kernel_forest.proofs.Outside.{space_out}
 use Rattle.unix_model.proofs.TableLaws.{at-with_at, at-with_at-other}
@@ -194,9 +199,26 @@ module _ (k0 k1 k2 : Kernel) (fresh : NodeId) (to : Owner) (keeper : Key) (none 
     unnamed = λ outside trees. (takes.free outside [] tt trees.shares).none_outside;
     outside_now = (steps_trans k0 k1 k2 (with_taken (forest_of k0) (NodeObject fresh.0) to) (with_key (forest_of k1) (place_of fresh.0 15) keeper) 1 0 takes.steps puts.steps).outside_now;
     rows_now = (steps_trans k0 k1 k2 (with_taken (forest_of k0) (NodeObject fresh.0) to) (with_key (forest_of k1) (place_of fresh.0 15) keeper) 1 0 takes.steps puts.steps).rows_now;
+    apart_now = (steps_trans k0 k1 k2 (with_taken (forest_of k0) (NodeObject fresh.0) to) (with_key (forest_of k1) (place_of fresh.0 15) keeper) 1 0 takes.steps puts.steps).apart_now;
+    spelled_now = (steps_trans k0 k1 k2 (with_taken (forest_of k0) (NodeObject fresh.0) to) (with_key (forest_of k1) (place_of fresh.0 15) keeper) 1 0 takes.steps puts.steps).spelled_now;
+    inside = λ outside. inside_same k0 k2 outside ((steps_trans k0 k1 k2 (with_taken (forest_of k0) (NodeObject fresh.0) to) (with_key (forest_of k1) (place_of fresh.0 15) keeper) 1 0 takes.steps puts.steps).outside_now outside)
+        (λ number some.
+        let same = ap (λ (f : Forest). f.owner (PageObject number)) forest_is ∙ other_object (forest_of k0).owner (NodeObject fresh.0) (Some to) (PageObject number) (λ e. cc) in
+        ap is_some (sym same) ∙ some);
     rest = (steps_trans k0 k1 k2 (with_taken (forest_of k0) (NodeObject fresh.0) to) (with_key (forest_of k1) (place_of fresh.0 15) keeper) 1 0 takes.steps puts.steps).rest;
     number = (steps_trans k0 k1 k2 (with_taken (forest_of k0) (NodeObject fresh.0) to) (with_key (forest_of k1) (place_of fresh.0 15) keeper) 1 0 takes.steps puts.steps).number;
   }
+
+  -- ways of other spaces
+  pub added_ways : KeepsWays k0 k2
+  added_ways mine page is own =
+      subst (λ f. OwnWay f mine (node_way page)) (sym forest_is)
+      (root_keeps_way (forest_of k0) (with_key (with_taken (forest_of k0) (NodeObject fresh.0) to) (place_of fresh.0 15) keeper) fresh.0 (root_content keeper) sound with_root mine is
+      (λ digit way object w way_own ends one. ⊎_elim
+      (λ (t : object ≡ NodeObject fresh.0). ap (with_object (forest_of k0).count (NodeObject fresh.0) 1) t ∙ with_object-here (forest_of k0).count (NodeObject fresh.0) 1)
+      (λ (t : object ≢ NodeObject fresh.0). other_object (forest_of k0).count (NodeObject fresh.0) 1 object t ∙ one)
+      (is_or_not object (NodeObject fresh.0)))
+      (node_way page) (way_of_node page) own)
 
 -- the fresh node belongs to a tree, and holds no key
 pub fresh_owned : (k0 k1 : Kernel) (fresh : NodeId) (to : Owner) → TakesFresh k0 k1 fresh.0 to → IsSome ((forest_of k1).owner (NodeObject fresh.0))

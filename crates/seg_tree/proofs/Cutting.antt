@@ -1,7 +1,7 @@
 -- Empty nodes are taken out of a tree, from below upwards.
-use Rattle.std.proofs.Common.{◌≡◌, ◌≢◌, ◌<◌, ◌≤◌, ◌+◌, ◌-◌, ◌*◌, ◌/◌, ◌%◌, ◌↔◌, ◌==◌, ℕ, Some, None, [], ◌∷◌, refl, ap, sym, subst, ◌∙◌, arith, ⊎_elim}
+use Rattle.std.proofs.Common.{nat_lt, if◌then◌else◌, true, false, ◌^◌, ◌≡◌, ◌≢◌, ◌<◌, ◌≤◌, ◌+◌, ◌-◌, ◌*◌, ◌/◌, ◌%◌, ◌↔◌, ◌==◌, ℕ, Some, None, [], ◌∷◌, refl, ap, sym, subst, ◌∙◌, arith, ⊎_elim}
 use Rattle.std.specs.Option.{is_some, IsSome}
-use Rattle.std.proofs.lemmas.Bool.{cases_lt}
+use Rattle.std.proofs.lemmas.Bool.{cases_Bool, cases_lt}
 use Rattle.kn_base.specs.declared.key.Key.{Key}
 use Rattle.kn_base.specs.declared.key.Key.TheVariants.{Null, Page, Segment}
 use Rattle.kn_base.specs.declared.key.NodeId.{NodeId}
@@ -11,9 +11,10 @@ use Rattle.space_bank.specs.Bank.{BankGood, IsTakenOnce, node_given}
 use Rattle.space_bank.specs.Shares.{Outside, TakesNodeOutOfHand, node_places}
 use Rattle.unix_model.specs.Tables.{at, with_at}
 use Rattle.forest.specs.Objects.{Object, PageObject, NodeObject, named}
-use Rattle.forest.specs.Walks.{place_of, key_along, space_key, digits, map_of}
+use Rattle.forest.specs.Walks.{mapping_of, key_at_page, place_of, key_along, space_key, digits, map_of}
 use Rattle.forest.specs.Forest.{Forest, Held, Sound, IsSpace, EndsAt, OwnWay, NoneEmpty, NoneEmptyBut, key_height, namings, node_way}
-use Rattle.forest.specs.Changes.{with_given}
+use Rattle.forest.specs.Changes.{with_given, KeepsRoot}
+use Rattle.forest.proofs.RootLaws.{root_trans}
 use Rattle.forest.specs.Calls.{ChangesMap}
 use Rattle.forest.proofs.WalkLaws.{step}
 use Rattle.forest.proofs.ExactLaws.{nobody_counted}
@@ -21,8 +22,13 @@ use Rattle.forest.proofs.HeldLaws.{other_object}
 use Rattle.forest.proofs.OwnLaws.{owned_node, owned_object}
 use Rattle.forest.proofs.MapLaws.{page_no_node}
 use Rattle.forest.proofs.ReachLaws.{named_somewhere, NamedSomewhere, nowhere, somewhere, nothing_in_hand}
-use Rattle.forest.proofs.ReleaseLaws.{release_gives_unnamed, is_or_not}
+use Rattle.forest.proofs.ReleaseLaws.{some_not_none, release_gives_unnamed, is_or_not}
 use Rattle.forest.proofs.PruneLaws.{prune_keeps_maps, taken_out, still_empty}
+use Rattle.forest.proofs.OwnMaps.{page_way-parts, length-node_way, way_of_node}
+use Rattle.seg_tree.specs.Ways.{HasOwnWay, KeepsOtherWays, KeepsMappedWays}
+use Rattle.seg_tree.proofs.OwnWays.{counts_keep_way}
+use Rattle.seg_tree.proofs.Mapping.{space_leaf}
+use Rattle.kernel_forest.proofs.ApartLaws.{inside_same}
 use Rattle.kernel_forest.specs.Trees.{forest_of, outside_trees, IsTreeKey, TreesGood}
 use Rattle.kernel_forest.specs.Moves.{PutsKey}
 use Rattle.kernel_forest.specs.Releases.{Releasing, InHand, Lets}
@@ -36,7 +42,7 @@ use Rattle.seg_tree.proofs.Emptying.{unreleased_trans}
 use Rattle.seg_tree.proofs.Levels.{digits-pred, digits-way, digits-zero}
 use Rattle.seg_tree.proofs.Making.{filled_last}
 use Rattle.seg_tree.proofs.Mapping.{trees_nothing, node_way-digits}
-use Rattle.seg_tree.proofs.PruneWays.{off_stands, off_once, off_own, off_ends, off_but, KeepsNodes, leaf_release, nodes_own}
+use Rattle.seg_tree.proofs.PruneWays.{off_ways, off_alive, off_stands, off_once, off_own, off_ends, off_but, KeepsNodes, leaf_release, nodes_own}
 
 segment_named : (key : Key) (node : NodeId) → named key ≡ Some (NodeObject node.0) → key ≡ Segment node (key_height key)
 segment_named (Segment n height) node h =
@@ -102,6 +108,8 @@ module _ (k0 : Kernel) (above digit : ℕ) (node : NodeId) (known : Outside) (kn
               ∙ ap (λ f. with_given f (NodeObject node.0)) puts.steps.forest_now;
           outside_now = λ outside. lets.outside_now outside ∙ puts.steps.outside_now outside;
           rows_now = λ mine apart. lets.rows_now mine apart ∙ puts.steps.rows_now mine apart;
+          apart_now = lets.apart_now ∙ puts.steps.apart_now;
+          spelled_now = λ place some. lets.spelled_now place (puts.steps.spelled_now place some);
           rest = unreleased_trans k0 k1 k2 (unreleased k0 k1 puts.steps.rest) lets.rest;
           bank = ap (λ (k : Kernel). k.bank) given ∙ ap (λ (k : Kernel). k.bank) puts.steps.rest;
           fewer = omega arith;
@@ -126,6 +134,9 @@ module _ (k0 : Kernel) (above digit : ℕ) (node : NodeId) (known : Outside) (kn
           subst (λ f. IsSpace f [] other) (sym off.forest_now) kept.0,
           ap (λ (f : Forest). map_of f.keys other) off.forest_now ∙ kept.1,
         );
+    roots = λ other is.
+        let kept = (prune_keeps_maps (forest_of k0) (outside_trees k0 known) [] (place_of above digit) node.0 known_trees.held stands once nulls).2 other (subst (λ f. IsSpace f [] other) off.forest_now is) in
+        subst (λ f. KeepsRoot (forest_of k0) f [] other) (sym off.forest_now) kept;
     named_outside = λ outside trees object some many. ⊎_elim
         (λ (t : object ≡ NodeObject node.0). absurd ((trees.held.apart object many).0 (place_of above digit) (stands ∙ ap Some (sym t))))
         (λ (t : object ≢ NodeObject node.0). ap (λ (f : Forest). is_some (f.owner object)) off.forest_now
@@ -134,6 +145,8 @@ module _ (k0 : Kernel) (above digit : ℕ) (node : NodeId) (known : Outside) (kn
     fewer_owned = owned_before;
     outside_now = off.outside_now;
     rows_now = off.rows_now;
+    apart_now = off.apart_now;
+    spelled_now = off.spelled_now;
     rest = off.rest;
     bank = off.bank;
     pages = λ number. ap (λ (f : Forest). f.owner (PageObject number)) off.forest_now
@@ -148,10 +161,13 @@ pub prunes_none : (kernel : Kernel) → Prunes kernel kernel
 prunes_none kernel = record {
   trees = λ outside trees. trees;
   spaces = λ other is. (is, refl);
+  roots = λ other is. record { was = is; owner = refl; keeper = refl };
   named_outside = λ outside trees object some many. some;
   fewer_owned = λ object some. some;
   outside_now = λ outside. refl;
   rows_now = λ mine apart. refl;
+  apart_now = refl;
+  spelled_now = λ place some. some;
   rest = refl;
   bank = refl;
   pages = λ number. refl;
@@ -162,16 +178,31 @@ pub prunes_trans : (k0 k1 k2 : Kernel) → Prunes k0 k1 → Prunes k1 k2 → Pru
 prunes_trans k0 k1 k2 first second = record {
   trees = λ outside trees. second.trees outside (first.trees outside trees);
   spaces = λ other is. let a = first.spaces other is in let b = second.spaces other a.0 in (b.0, b.1 ∙ a.1);
+  roots = λ other is.
+      let b = second.roots other is in
+      root_trans (forest_of k0) (forest_of k1) (forest_of k2) [] [] other (first.roots other b.was) b;
   named_outside = λ outside trees object some many. second.named_outside outside (first.trees outside trees) object (first.named_outside outside trees object some many)
       (let same = ap (λ (out : Object → ℕ). out object) (first.outside_now outside) in omega arith);
   fewer_owned = λ object some. first.fewer_owned object (second.fewer_owned object some);
   outside_now = λ outside. second.outside_now outside ∙ first.outside_now outside;
   rows_now = λ mine apart. second.rows_now mine apart ∙ first.rows_now mine apart;
+  apart_now = second.apart_now ∙ first.apart_now;
+  spelled_now = λ place some. second.spelled_now place (first.spelled_now place some);
   rest = unreleased_trans k0 k1 k2 first.rest second.rest;
   bank = second.bank ∙ first.bank;
   pages = λ number. second.pages number ∙ first.pages number;
   fewer = let a = first.fewer in let b = second.fewer in omega arith;
 }
+
+-- a key stands where something is mapped
+mapped_key_there : (keys : ℕ → Key) (space page : ℕ) → IsSome (map_of keys space page) → key_along keys (space_key space) (page % 16 ∷ node_way page) ≢ Null
+unfolding map_of
+mapped_key_there keys space page some null = ⊎_elim
+    (λ (t : nat_lt page (2 ^ 19) ≡ true).
+    let none : mapping_of (key_at_page keys space page) ≡ None = ap (λ way. mapping_of (key_along keys (space_key space) way)) (page_way-parts page) ∙ ap mapping_of null in
+    some_not_none (if nat_lt page (2 ^ 19) then mapping_of (key_at_page keys space page) else None) some (rw t none))
+    (λ (t : nat_lt page (2 ^ 19) ≡ false). some_not_none (if nat_lt page (2 ^ 19) then mapping_of (key_at_page keys space page) else None) some (rw t refl))
+    (cases_Bool (nat_lt page (2 ^ 19)))
 
 -- one level up
 module _ (k0 : Kernel) (space levels number : ℕ) (some : levels ≢ 0) (known : Outside) (trees : TreesGood k0 known []) (is_space : IsSpace (forest_of k0) [] space)
@@ -206,6 +237,18 @@ module _ (k0 : Kernel) (space levels number : ℕ) (some : levels ≢ 0) (known 
       next_ends = subst (λ (f : Forest). EndsAt f.keys space (digits (levels - 1) (number / 16)) (NodeObject above)) (sym off.forest_now)
           (off_ends (forest_of k0) (outside_trees k0 known) space above node (number % 16) (digits (levels - 1) (number / 16)) trees.held is_space
           (digits-way (levels - 1) (number / 16)) (omega arith) own_parts ends_parts ends_above)
+
+      pub next_ways : KeepsOtherWays k0 k2 space
+      next_ways mine page is apart own_way = subst (λ f. OwnWay f mine (node_way page)) (sym off.forest_now)
+          (off_ways (forest_of k0) (outside_trees k0 known) space above node (number % 16) (digits (levels - 1) (number / 16)) trees.held is_space
+          (digits-way (levels - 1) (number / 16)) (omega arith) own_parts ends_parts ends_above mine is apart (node_way page) (way_of_node page) own_way)
+
+      pub next_mapped_ways : ((d : ℕ) → d < 16 → at (forest_of k0).keys (place_of node d) ≡ Null)
+          → (page : ℕ) → IsSome (map_of (forest_of k0).keys space page) → HasOwnWay k0 space page → HasOwnWay k2 space page
+      next_mapped_ways nulls page mapped own_way = subst (λ f. OwnWay f space (node_way page)) (sym off.forest_now)
+          (off_alive (forest_of k0) (outside_trees k0 known) space above node (number % 16) (digits (levels - 1) (number / 16)) trees.held is_space
+          (digits-way (levels - 1) (number / 16)) (omega arith) own_parts ends_parts ends_above nulls (page % 16) (node_way page) (omega arith) (way_of_node page)
+          (mapped_key_there (forest_of k0).keys space page mapped) own_way)
 
       next_but : NoneEmptyBut (forest_of k0).keys node → NoneEmptyBut (forest_of k2).keys above
       next_but but = subst (λ (f : Forest). NoneEmptyBut f.keys above) (sym off.forest_now)
@@ -273,7 +316,19 @@ module _ (k0 k1 k2 : Kernel) (space page : ℕ) (was : Key) (put : PutsLeaf k0 k
   pub unmapped_ends : (n : ℕ) × EndsAt (forest_of k2).keys space (digits 4 (page / 16)) (NodeObject n)
   unmapped_ends = (put.node, unmapped_end)
 
-  module _ (k3 : Kernel) (pruned : Prunes k2 k3)
+  -- ways, until a node is taken out
+  unmapped_ways : (mine number : ℕ) → IsSpace (forest_of k0) [] mine → IsSpace (forest_of k2) [] mine → HasOwnWay k0 mine number → HasOwnWay k2 mine number
+  unmapped_ways mine number is still own =
+      let hand = put.hand known (null_trees known known_trees) in
+      let between : IsSpace (forest_of k1) [] mine = record {
+        owned = ap is_some (sym (keeps.owners mine)) ∙ still.owned;
+        unnamed = λ place h. still.unnamed place (ap (λ (keys : ℕ → Key). named (at keys place)) keeps.keys ∙ h);
+        not_in_hand = still.not_in_hand;
+      } in
+      counts_keep_way (forest_of k1) (forest_of k2) (was ∷ []) mine hand.held.sound hand.held.rooted (space_leaf (forest_of k1) [] was mine put.leaf between) keeps.keys keeps.counts
+      (node_way number) (way_of_node number) (let four = length-node_way number in omega arith) (put.ways mine number is own)
+
+  module _ (k3 : Kernel) (pruned : Prunes k2 k3) (pruned_ways : KeepsOtherWays k2 k3 space) (pruned_mapped : KeepsMappedWays k2 k3 space)
       (filled : (n : ℕ) → EndsAt (forest_of k2).keys space (digits 4 (page / 16)) (NodeObject n) → NoneEmptyBut (forest_of k2).keys n → NoneEmpty (forest_of k3).keys) where
     outside_same : (outside : Outside) → outside_trees k3 outside ≡ outside_trees k0 outside
     outside_same outside = pruned.outside_now outside ∙ lets.outside_now outside ∙ put.outside_now outside
@@ -320,11 +375,18 @@ module _ (k0 k1 k2 : Kernel) (space page : ℕ) (was : Key) (put : PutsLeaf k0 k
                   stay = λ other is apart. (pruned.spaces other (change.others.stay other is apart)).0;
                   maps = λ other is apart. (pruned.spaces other (change.others.stay other is apart)).1 ∙ change.others.maps other is apart;
                 };
+                roots = λ other is.
+                    let last = pruned.roots other is in
+                    root_trans (forest_of k0) (forest_of k2) (forest_of k3) [] [] other (change.roots other last.was) last;
               },
             );
         filled = λ before. filled put.node unmapped_end (subst (λ (keys : ℕ → Key). NoneEmptyBut keys put.node) (sym keeps.keys) (put.but before));
         outside_now = outside_same;
         rows_now = λ mine apart. pruned.rows_now mine apart ∙ lets.rows_now mine apart ∙ put.rows_now mine apart;
+        apart_now = pruned.apart_now ∙ lets.apart_now ∙ put.apart_now;
+        spelled_now = λ place some. pruned.spelled_now place (lets.spelled_now place (put.spelled_now place some));
+        inside = λ outside. inside_same k0 k3 outside (outside_same outside)
+            (λ number some. ap is_some (sym (put.pages_now number)) ∙ lets.keeps.fewer (PageObject number) (ap is_some (sym (pruned.pages number)) ∙ some));
         rest = unreleased_trans k0 k2 k3 (unreleased_trans k0 k1 k2 (unreleased k0 k1 put.rest) lets.rest) pruned.rest;
         bytes = λ number inside still.
             let size_one : k1.size ≡ k0.size = ap (λ (k : Kernel). k.size) put.rest in
@@ -336,6 +398,10 @@ module _ (k0 k1 k2 : Kernel) (space page : ℕ) (was : Key) (put : PutsLeaf k0 k
         most = let a = put.most in let b = pruned.fewer in omega arith;
       };
       given = given_back;
+      ways = λ mine number is apart own.
+          let still = (after known known_trees).1.others.stay mine is apart in
+          pruned_ways mine number still apart (unmapped_ways mine number is still own);
+      mapped_ways = λ number mapped own. pruned_mapped number mapped (unmapped_ways space number is_space unmapped_space own);
     }
       where
         bank_same : (old new : Kernel) (number : ℕ) → new.size ≡ old.size → new.bank ≡ old.bank → bank_page new number ≡ bank_page old number

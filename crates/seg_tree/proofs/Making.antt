@@ -13,7 +13,8 @@ use Rattle.unix_model.proofs.TableLaws.{with_at-same}
 use Rattle.forest.specs.Objects.{Object, PageObject, NodeObject, Owner, named}
 use Rattle.forest.specs.Walks.{place_of, key_along, space_key, IsWay, digits, page_way, map_of, mapping_of, Mapping}
 use Rattle.forest.specs.Forest.{Forest, Held, IsSpace, FitsUnder, EndsAt, OwnWay, NoneEmpty, NoneEmptyBut, IsFilled, node_way}
-use Rattle.forest.specs.Changes.{IsFree}
+use Rattle.forest.specs.Changes.{IsFree, KeepsRoot}
+use Rattle.forest.proofs.RootLaws.{root_trans}
 use Rattle.forest.specs.Descent.{IsMadeOwn}
 use Rattle.forest.specs.Calls.{ChangesMap, IsOwn}
 use Rattle.forest.proofs.ReleaseLaws.{is_or_not}
@@ -24,6 +25,7 @@ use Rattle.forest.proofs.DescentLaws.{AtEnd, makes_way_own}
 use Rattle.forest.proofs.CallLaws.{own_way_is_own}
 use Rattle.forest.proofs.AloneLaws.{own_has_own_way}
 use Rattle.forest.proofs.EmptyLaws.{descent_leaves_last_empty, write_fills}
+use Rattle.kernel_forest.proofs.ApartLaws.{inside_same}
 use Rattle.kernel_forest.specs.Trees.{forest_of, outside_trees, page_tree, TreesGood}
 use Rattle.kernel_forest.specs.Moves.{KeepsRest}
 use Rattle.kernel_forest.proofs.GivingNodes.{unreleased, same_bytes}
@@ -63,6 +65,7 @@ pub record Arrives (old mid : Kernel) (space page node found : ℕ) (to : Owner)
   pub owner : (forest_of mid).owner (NodeObject space) ≡ Some to
   pub spaces : (other : ℕ) → IsSpace (forest_of old) [] other ↔ IsSpace (forest_of mid) [] other
   pub maps : (other : ℕ) → IsSpace (forest_of old) [] other → map_of (forest_of mid).keys other ≡ map_of (forest_of old).keys other
+  pub roots : (other : ℕ) → IsSpace (forest_of mid) [] other → KeepsRoot (forest_of old) (forest_of mid) [] other
   pub above : OwnWay (forest_of mid) space (node_way page)
   pub ends : EndsAt (forest_of mid).keys space (node_way page) (NodeObject node)
   pub stands : at (forest_of mid).keys (place_of node (page % 16)) ≡ page_key found
@@ -145,6 +148,9 @@ module _ (old mid : Kernel) (space page node found : ℕ) (to : Owner) (below : 
     owner = mid_owner;
     spaces = made.spaces;
     maps = made.maps;
+    roots = λ other is.
+        let was = (made.spaces other).1 is in
+        record { was = was; owner = made.owners (NodeObject other) was.owned; keeper = made.keepers other was };
     above = own_above;
     ends = ends;
     stands = stands;
@@ -216,7 +222,7 @@ module _ (old mid : Kernel) (space page node found : ℕ) (to : Owner) (below : 
         changes = λ outside all.
             let a = there outside all in (
               a.trees,
-              record { stays = a.is_space; here = a.same_map; others = record { stay = λ other is apart. (a.spaces other).0 is; maps = λ other is apart. a.maps other is } },
+              record { stays = a.is_space; here = a.same_map; others = record { stay = λ other is apart. (a.spaces other).0 is; maps = λ other is apart. a.maps other is }; roots = a.roots },
             );
         spaces = here.spaces;
         own = own_mid old mid space page node found to below is_space owner mapped known trees d good page_owner real single;
@@ -226,6 +232,9 @@ module _ (old mid : Kernel) (space page node found : ℕ) (to : Owner) (below : 
         filled = λ filled. filled_last (forest_of mid).keys node (here.filled filled) (page % 16, omega arith, no_null (at (forest_of mid).keys (place_of node (page % 16))) found here.stands);
         outside_now = d.outside_now;
         rows_now = d.rows_now;
+        apart_now = d.apart_now;
+        spelled_now = d.spelled_now;
+        inside = λ outside all. inside_same old mid outside (d.outside_now outside) (λ number some. ap is_some (sym (made_pages d.made number)) ∙ some);
         rest = unreleased old mid d.rest;
         kept = λ own. (refl, d.same (unchanged old mid space page node found to below is_space owner mapped known trees d own).0);
         copied = λ no. absurd (no (own_before old mid space page node found to below is_space owner mapped known trees d good page_owner real single));
@@ -278,6 +287,9 @@ module _ (old mid : Kernel) (space page node found : ℕ) (to : Owner) (below : 
                   stay = λ other is apart. change.others.stay other ((a.spaces other).0 is) apart;
                   maps = λ other is apart. change.others.maps other ((a.spaces other).0 is) apart ∙ a.maps other is;
                 };
+                roots = λ other is.
+                    let last = change.roots other is in
+                    root_trans (forest_of old) (forest_of mid) (leaf_copied (forest_of mid) (place_of node (page % 16)) fresh to) [] [] other (a.roots other last.was) last;
               }),
         )
       where
@@ -322,6 +334,17 @@ module _ (old mid : Kernel) (space page node found : ℕ) (to : Owner) (below : 
               (write_fills (forest_of mid).keys node (page % 16) (page_key fresh) (here.filled filled) (omega arith) refl (λ e. cc)));
           outside_now = λ outside. c.takes.outside_now outside ∙ d.outside_now outside;
           rows_now = λ mine apart. c.takes.rows_now mine apart ∙ d.rows_now mine apart;
+          apart_now = c.takes.apart_now ∙ d.apart_now;
+          spelled_now = λ place some. c.takes.spelled_now place (d.spelled_now place some);
+          inside = λ outside all none number some. ⊎_elim
+              (λ (t : PageObject number ≡ PageObject fresh).
+              ap (λ (out : Object → ℕ). out (PageObject number)) (c.takes.outside_now outside) ∙ ap (outside_trees mid outside) t ∙ (free outside all).none_outside)
+              (λ (t : PageObject number ≢ PageObject fresh).
+              let a = there outside all in
+              let still = other_owner_now (forest_of mid) (outside_trees mid outside) space page node fresh to a.trees.held a.is_space a.owner below a.above a.ends (free outside all) real is_many (PageObject number) t in
+              ap (λ (out : Object → ℕ). out (PageObject number)) (c.takes.outside_now outside ∙ d.outside_now outside)
+              ∙ none number (ap is_some (sym (made_pages d.made number)) ∙ ap is_some (sym still) ∙ ap (λ (f : Forest). is_some (f.owner (PageObject number))) (sym c.takes.forest_now) ∙ some))
+              (is_or_not (PageObject number) (PageObject fresh));
           rest = unreleased_trans old mid new (unreleased old mid d.rest) c.takes.rest;
           kept = λ own.
               let one = own_single old mid space page node found to below is_space owner mapped known trees d own in

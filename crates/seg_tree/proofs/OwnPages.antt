@@ -153,6 +153,14 @@ module _ (forest : Forest) (outside : Object → ℕ) (space page node fresh : �
       stay = λ other is apart. changed.1.others.stay other (taken_space other is) apart;
       maps = λ other is apart. changed.1.others.maps other (taken_space other is) apart;
     };
+    roots = λ other is.
+        let r = changed.1.roots other is in
+        let was = r.was in
+        record {
+          was = record { owned = ap is_some (sym (owner_kept other)) ∙ was.owned; unnamed = was.unnamed; not_in_hand = was.not_in_hand };
+          owner = r.owner ∙ owner_kept other;
+          keeper = r.keeper;
+        };
   }
 
   -- each own way stays own

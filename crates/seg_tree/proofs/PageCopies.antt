@@ -23,6 +23,8 @@ use Rattle.forest.proofs.HeldLaws.{other_object}
 use Rattle.forest.proofs.CopyLaws.{end_owned}
 use Rattle.forest.proofs.ReleaseLaws.{some_not_none}
 use Rattle.kernel_forest.specs.Trees.{forest_of, outside_trees, tree_in, page_tree, IsTreeKey}
+use Rattle.kernel_forest.specs.Apart.{apart_of}
+use Rattle.kernel_forest.proofs.ApartLaws.{apart-page_written, same_spelled}
 use Rattle.kernel_forest.specs.Moves.{TakesFreshPage, PutsKey, LowersKey}
 use Rattle.kernel_forest.specs.Releases.{KeepsUnreleased}
 use Rattle.kernel_forest.proofs.Bridge.{page_inside}
@@ -65,6 +67,8 @@ copies_zero old new found fresh to none zero takes = record {
     forest_now = takes.forest_now;
     outside_now = takes.outside_now;
     rows_now = takes.rows_now;
+    apart_now = takes.apart_now;
+    spelled_now = takes.spelled_now;
     rest = subst (λ (k : Kernel). KeepsUnreleased old k) (sym takes.rest) refl;
     nodes = ap (λ (k : Kernel). k.machine.nodes_taken) takes.rest;
     pages = ap (λ (k : Kernel). k.machine.pages_taken) takes.rest;
@@ -104,6 +108,11 @@ module _ (old mid : Kernel) (found fresh : ℕ) (to : Owner) (good : BankGood ol
           forest_now = ap forest_of written ∙ takes.forest_now;
           outside_now = λ outside. ap (λ k. outside_trees k outside) written ∙ takes.outside_now outside;
           rows_now = λ mine apart. subst (λ (k : Kernel). Rattle.kernel_tables.specs.Rows.rows mine k.node_entries k.keys ≡ Rattle.kernel_tables.specs.Rows.rows mine mid.node_entries mid.keys) (sym written) refl ∙ takes.rows_now mine apart;
+          apart_now = ap apart_of written
+              ∙ apart-page_written mid fresh (bank_page mid found) (ap (λ (f : Forest). is_some (f.owner (PageObject fresh))) takes.forest_now
+              ∙ ap is_some (with_object-here (forest_of old).owner (PageObject fresh) (Some to)))
+              ∙ takes.apart_now;
+          spelled_now = λ place some. same_spelled mid new (ap (λ (k : Kernel). k.keys) written) place (takes.spelled_now place some);
           rest = unreleased_trans old mid new (subst (λ (k : Kernel). KeepsUnreleased old k) (sym takes.rest) refl) (subst (λ (k : Kernel). KeepsUnreleased mid k) (sym written) refl);
           nodes = ap (λ (k : Kernel). k.machine.nodes_taken) written ∙ ap (λ (k : Kernel). k.machine.nodes_taken) takes.rest;
           pages = ap (λ (k : Kernel). k.machine.pages_taken) written ∙ ap (λ (k : Kernel). k.machine.pages_taken) takes.rest;
@@ -132,6 +141,8 @@ lowers_zero kernel page writable none = record {
     forest_now = ap (λ n. lowered (forest_of kernel) (Page (record { 0 = n }) writable)) (sym none);
     outside_now = λ outside. refl;
     rows_now = λ mine apart. refl;
+    apart_now = refl;
+    spelled_now = λ place some. some;
     rest = refl;
     number = sym (add-zero kernel.machine.nodes_taken);
   };
@@ -184,6 +195,8 @@ copies_leaf k0 k1 k2 k3 place found fresh to stands c puts lowers =
             ∙ ap (lowered (with_key (with_taken (forest_of k0) (PageObject fresh) to) place (page_key fresh))) (sym stands);
         outside_now = λ outside. lowers.steps.outside_now outside ∙ puts.steps.outside_now outside ∙ c.takes.outside_now outside;
         rows_now = λ mine apart. lowers.steps.rows_now mine apart ∙ puts.steps.rows_now mine apart ∙ c.takes.rows_now mine apart;
+        apart_now = lowers.steps.apart_now ∙ puts.steps.apart_now ∙ c.takes.apart_now;
+        spelled_now = λ place some. lowers.steps.spelled_now place (puts.steps.spelled_now place (c.takes.spelled_now place some));
         rest = unreleased_trans k0 k1 k3 c.takes.rest (unreleased_trans k1 k2 k3 (unreleased k1 k2 puts.steps.rest) (unreleased k2 k3 lowers.steps.rest));
         nodes = lowers.steps.number ∙ add-zero k2.machine.nodes_taken ∙ puts.steps.number ∙ add-zero k1.machine.nodes_taken ∙ c.takes.nodes;
         pages = ap (λ (k : Kernel). k.machine.pages_taken) lowers.steps.rest ∙ ap (λ (k : Kernel). k.machine.pages_taken) puts.steps.rest ∙ c.takes.pages;

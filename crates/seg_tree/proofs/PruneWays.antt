@@ -2,17 +2,19 @@
 use Rattle.std.proofs.Common.{◌≡◌, ◌≢◌, ◌<◌, ◌-◌, ℕ, Some, None, List, [], ◌∷◌, refl, ap, sym, subst, ◌∙◌, arith, ⊎_elim}
 use Rattle.std.proofs.lemmas.Bool.{cases_eq}
 use Rattle.kn_base.specs.declared.key.Key.{Key}
-use Rattle.kn_base.specs.declared.key.Key.TheVariants.{Null}
+use Rattle.kn_base.specs.declared.key.Key.TheVariants.{Null, Segment}
 use Rattle.unix_model.specs.Tables.{at, with_at}
 use Rattle.unix_model.proofs.TableLaws.{at-with_at, at-with_at-other}
 use Rattle.forest.specs.Objects.{Object, PageObject, NodeObject, named}
-use Rattle.forest.specs.Walks.{place_of, key_along, space_key, IsWay}
+use Rattle.forest.specs.Walks.{place_of, key_below, key_along, space_key, IsWay}
 use Rattle.forest.specs.Forest.{Forest, Held, IsSpace, EndsAt, OwnWay, CountedOnce, FitsUnder, NobodyNames, NoneEmptyBut}
 use Rattle.forest.specs.Changes.{with_key, with_given}
 use Rattle.forest.specs.Release.{Release, ReleaseStep, done, more, nothing, shared, page, take_out, empty_node}
 use Rattle.forest.proofs.WalkLaws.{step}
 use Rattle.forest.proofs.HeldLaws.{other_object}
-use Rattle.forest.proofs.OwnLaws.{alone, once_at}
+use Rattle.forest.proofs.OwnLaws.{alone, once_at, own_is_alone}
+use Rattle.forest.proofs.MapLaws.{node_key}
+use Rattle.std.specs.Bool.{⊤}
 use Rattle.forest.proofs.OwnMaps.{OwnEnd, own_end, short_way}
 use Rattle.forest.proofs.CopyLaws.{counted_once, once}
 use Rattle.forest.proofs.DescentLaws.{own_kept, leaf_names_page}
@@ -29,6 +31,25 @@ own_given forest node space nobody (digit ∷ way) own =
           (other_object forest.count (NodeObject node) 0 o.object (λ t. nobody (place_of s.node digit) (s.here ∙ ap Some t)) ∙ o.counted),
       own_given forest node space nobody way own.1,
     )
+
+-- a way on which a node doesn't stand
+abbrev Misses : (ℕ → Key) → (space node : ℕ) → List ℕ → Type 0
+Misses keys space node [] = ⊤
+Misses keys space node (digit ∷ way) = (EndsAt keys space (digit ∷ way) (NodeObject node) → ⊥) × Misses keys space node way
+
+-- no empty node stands where a way goes on to a key
+alive_misses : (keys : ℕ → Key) (space node : ℕ) → ((d : ℕ) → d < 16 → at keys (place_of node d) ≡ Null)
+    → (digit : ℕ) (way : List ℕ) → digit < 16 → IsWay way → key_along keys (space_key space) (digit ∷ way) ≢ Null → Misses keys space node way
+alive_misses keys space node nulls digit [] less is some = tt
+alive_misses keys space node nulls digit (next ∷ way) less is some = (
+  λ ends. some ((node_key keys (key_along keys (space_key space) (next ∷ way)) node ends).below digit ∙ nulls digit less),
+  alive_misses keys space node nulls next way is.0 is.1 (λ null. some (ap (λ key. key_below keys key digit) null)),
+)
+
+-- a key at a digit, where Null was written at another place
+below_else : (keys : ℕ → Key) (place : ℕ) (upper : Key) (digit : ℕ) → (key_below keys upper digit ≡ at keys place → ⊥) → key_below (with_at keys place Null) upper digit ≡ key_below keys upper digit
+below_else keys place (Segment n height) digit apart = at-with_at-other keys place (place_of n.0 digit) Null (λ t. apart (ap (at keys) t))
+below_else keys place _ digit apart = refl
 
 module _ (forest : Forest) (outside : Object → ℕ) (space above node digit : ℕ) (way : List ℕ) (held : Held forest outside []) (is_space : IsSpace forest [] space)
     (w : IsWay way) (below : digit < 16) (own : OwnWay forest space (digit ∷ way)) (ends : EndsAt forest.keys space (digit ∷ way) (NodeObject node))
@@ -59,6 +80,40 @@ module _ (forest : Forest) (outside : Object → ℕ) (space above node digit : 
 
   pub off_but : NoneEmptyBut forest.keys node → NoneEmptyBut (with_at forest.keys (place_of above digit) Null) above
   off_but but = pruning_empties_above forest.keys above digit node but below off_only
+
+  -- no own way of another space comes by the node
+  apart_misses : (mine : ℕ) → IsSpace forest [] mine → mine ≢ space → (v : List ℕ) → IsWay v → OwnWay forest mine v → Misses forest.keys mine node v
+  apart_misses mine is apart [] v_is v_own = tt
+  apart_misses mine is apart (d ∷ v) v_is v_own = (
+    λ v_ends. apart (sym (own_is_alone forest outside [] mine space (d ∷ v) (digit ∷ way) (NodeObject node) held.sound held.exact is is_space v_is (below, w) v_own v_ends ends).0),
+    apart_misses mine is apart v v_is.1 v_own.1,
+  )
+
+  off_along : (mine : ℕ) (v : List ℕ) → Misses forest.keys mine node v
+      → key_along (with_at forest.keys (place_of above digit) Null) (space_key mine) v ≡ key_along forest.keys (space_key mine) v
+  off_along mine [] misses = refl
+  off_along mine (d ∷ v) misses =
+      ap (λ key. key_below (with_at forest.keys (place_of above digit) Null) key d) (off_along mine v misses.1)
+      ∙ below_else forest.keys (place_of above digit) (key_along forest.keys (space_key mine) v) d (λ t. misses.0 (ap named t ∙ off_stands))
+
+  missing_kept : (mine : ℕ) (v : List ℕ) → Misses forest.keys mine node v → OwnWay forest mine v → OwnWay (with_given (with_key forest (place_of above digit) Null) (NodeObject node)) mine v
+  missing_kept mine [] misses v_own = tt
+  missing_kept mine (d ∷ v) misses v_own =
+      let o = once forest (key_along forest.keys (space_key mine) (d ∷ v)) v_own.0 in (
+        counted_once (with_given (with_key forest (place_of above digit) Null) (NodeObject node)) (key_along (with_at forest.keys (place_of above digit) Null) (space_key mine) (d ∷ v)) o.object
+            (ap named (off_along mine (d ∷ v) misses) ∙ o.names_it)
+            (other_object forest.count (NodeObject node) 0 o.object (λ t. misses.0 (o.names_it ∙ ap Some t)) ∙ o.counted),
+        missing_kept mine v misses.1 v_own.1,
+      )
+
+  pub off_ways : (mine : ℕ) → IsSpace forest [] mine → mine ≢ space → (v : List ℕ) → IsWay v → OwnWay forest mine v
+      → OwnWay (with_given (with_key forest (place_of above digit) Null) (NodeObject node)) mine v
+  off_ways mine is apart v v_is v_own = missing_kept mine v (apart_misses mine is apart v v_is v_own) v_own
+
+  -- nor does a way at whose end something stands, where the node is empty
+  pub off_alive : ((d : ℕ) → d < 16 → at forest.keys (place_of node d) ≡ Null) → (d : ℕ) (v : List ℕ) → d < 16 → IsWay v → key_along forest.keys (space_key space) (d ∷ v) ≢ Null
+      → OwnWay forest space v → OwnWay (with_given (with_key forest (place_of above digit) Null) (NodeObject node)) space v
+  off_alive nulls d v less v_is some v_own = missing_kept space v (alive_misses forest.keys space node nulls d v less v_is some) v_own
 
 -- a page's key was released: all nodes are as they were
 pub record KeepsNodes (old new : Forest) : Type 0 where

@@ -18,10 +18,12 @@ use Rattle.forest.proofs.OwnLaws.{owned_object, place_within}
 use Rattle.forest.proofs.OwnMaps.{way_of_node, length-node_way}
 use Rattle.forest.proofs.ReachLaws.{way_owner}
 use Rattle.forest.proofs.WalkLaws.{step}
+use Rattle.kernel_forest.proofs.ApartLaws.{inside_same}
 use Rattle.kernel_forest.specs.Trees.{forest_of, outside_trees, TreesGood}
 use Rattle.kernel_forest.specs.Moves.{RaisesKey, MayRaise, LowersKey}
 use Rattle.kernel_forest.proofs.Giving.{lets_step, keeps_bytes}
-use Rattle.forest.specs.Changes.{lowered, counted_less}
+use Rattle.forest.specs.Changes.{lowered, counted_less, KeepsRoot}
+use Rattle.forest.proofs.RootLaws.{root_trans}
 use Rattle.forest.specs.Forest.{namings}
 use Rattle.forest.specs.Release.{ReleaseStep, nothing as nothing_step, shared as shared_step}
 use Rattle.forest.proofs.CountLaws.{counted_one, true-names}
@@ -88,7 +90,7 @@ real_named id writable real = rw (ne_eqb id.0 0 real) refl
 -- a key in hand is released where what it names is counted more than once
 lets_lowered : (old new : Kernel) (key : Key) → IsMany (forest_of old) (named key) → LowersKey old new key → Lets old new (key ∷ []) []
 lets_lowered old new key many lowers =
-    lets_step old new key (lowered (forest_of old) key) lowers.steps.forest_now lowers.steps.outside_now lowers.steps.rows_now (unreleased old new lowers.steps.rest)
+    lets_step old new key (lowered (forest_of old) key) lowers.steps.forest_now lowers.steps.outside_now lowers.steps.rows_now lowers.steps.apart_now lowers.steps.spelled_now (unreleased old new lowers.steps.rest)
     (keeps_bytes old new (lowered (forest_of old) key) lowers.steps.forest_now
     (λ object some. ap (λ (o : Object → Option Owner). is_some (o object)) (sym (less_owner (forest_of old) (named key))) ∙ some) (same_bytes old new lowers.steps.rest))
     lowers.shares
@@ -143,6 +145,17 @@ module _ (k0 : Kernel) (space page : ℕ) (writable : Bool) (id : PageId) (good 
       owned = ap (λ (o : Object → Option Owner). is_some (o (NodeObject other))) owner_same ∙ is.owned;
       unnamed = λ place h. is.unnamed place (ap (λ (keys : ℕ → Key). named (at keys place)) (sym keys_same) ∙ h);
       not_in_hand = is.not_in_hand;
+    }
+
+    raised_root : (other : ℕ) → IsSpace (forest_of k1) [] other → KeepsRoot (forest_of k0) (forest_of k1) [] other
+    raised_root other is = record {
+      was = record {
+        owned = ap (λ (o : Object → Option Owner). is_some (o (NodeObject other))) (sym owner_same) ∙ is.owned;
+        unnamed = λ place h. is.unnamed place (ap (λ (keys : ℕ → Key). named (at keys place)) keys_same ∙ h);
+        not_in_hand = is.not_in_hand;
+      };
+      owner = ap (λ (o : Object → Option Owner). o (NodeObject other)) owner_same;
+      keeper = ap (λ (keys : ℕ → Key). at keys (place_of other 15)) keys_same;
     }
 
     -- own ways stay own while the page is counted more
@@ -204,6 +217,12 @@ module _ (k0 : Kernel) (space page : ℕ) (writable : Bool) (id : PageId) (good 
             (put.ways mine other (raised_space mine is) (raised_way known known_trees mine other is own)));
         outside_now = λ outside. lowers.steps.outside_now outside ∙ put.outside_now outside ∙ raises.steps.outside_now outside;
         rows_now = λ mine apart. lowers.steps.rows_now mine apart ∙ put.rows_now mine apart ∙ raises.steps.rows_now mine apart;
+        apart_now = lowers.steps.apart_now ∙ put.apart_now ∙ raises.steps.apart_now;
+        spelled_now = λ place some. lowers.steps.spelled_now place (put.spelled_now place (raises.steps.spelled_now place some));
+        inside = λ outside. inside_same k0 k3 outside (lowers.steps.outside_now outside ∙ put.outside_now outside ∙ raises.steps.outside_now outside)
+            (λ number some.
+            let between = ap (λ (o : Object → Option Owner). is_some (o (PageObject number))) (ap (λ (f : Forest). f.owner) lowers.steps.forest_now ∙ less_owner (forest_of k2) (named (Page id writable))) in
+            ap (λ (o : Object → Option Owner). is_some (o (PageObject number))) (sym owner_same) ∙ ap is_some (sym (put.pages_now number)) ∙ sym between ∙ some);
         rest = rest_trans k0 k2 k3 (rest_trans k0 k1 k2 raises.steps.rest put.rest) lowers.steps.rest;
         most = let a = put.most in let b = raises.steps.number in let c = lowers.steps.number in omega arith;
       }
@@ -220,4 +239,5 @@ module _ (k0 : Kernel) (space page : ℕ) (writable : Bool) (id : PageId) (good 
               stay = λ other is apart. change.others.stay other (raised_space other is) apart;
               maps = λ other is apart. change.others.maps other (raised_space other is) apart ∙ ap (λ (keys : ℕ → Key). map_of keys other) keys_same;
             };
+            roots = λ other is. root_trans (forest_of k0) (forest_of k1) (forest_of k3) [] [] other (raised_root other (change.roots other is).was) (change.roots other is);
           }

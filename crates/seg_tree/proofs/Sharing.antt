@@ -11,7 +11,7 @@ use Rattle.space_bank.specs.Shares.{Outside}
 use Rattle.space_bank.specs.Laws.{and_outside}
 use Rattle.space_bank.proofs.HandLaws.{handed-out}
 use Rattle.unix_model.specs.Tables.{at, count_below}
-use Rattle.forest.specs.Objects.{Object, NodeObject, Owner, named, names, with_object}
+use Rattle.forest.specs.Objects.{PageObject, Object, NodeObject, Owner, named, names, with_object}
 use Rattle.forest.specs.Walks.{place_of, space_key, map_of}
 use Rattle.forest.specs.Forest.{Forest, Held, IsSpace, IsRoot, FitsUnder, NobodyNames, NoneEmpty, IsFilled}
 use Rattle.forest.specs.Changes.{with_key, with_taken, raised, filled, WithRoot, and_outside as and_outside_trees}
@@ -21,9 +21,15 @@ use Rattle.forest.proofs.ExactLaws.{not_named, with_object-here}
 use Rattle.forest.proofs.HeldLaws.{take_keeps_held, hand_out_keeps_held, other_object}
 use Rattle.forest.proofs.MapLaws.{at-filled, at-filled-other}
 use Rattle.forest.proofs.OwnLaws.{owned_object}
-use Rattle.forest.proofs.ReleaseLaws.{front, some_not_none}
+use Rattle.forest.proofs.ReleaseLaws.{is_or_not, front, some_not_none}
 use Rattle.forest.proofs.RootLaws.{call_shares_space}
 use Rattle.forest.proofs.ShareLaws.{share_keeps_held}
+use Rattle.forest.specs.Forest.{OwnWay, node_way}
+use Rattle.forest.proofs.KeptWays.{root_keeps_way}
+use Rattle.forest.proofs.OwnLaws.{own_is_alone}
+use Rattle.forest.proofs.OwnMaps.{way_of_node}
+use Rattle.seg_tree.specs.Ways.{KeepsOtherWays}
+use Rattle.kernel_forest.proofs.ApartLaws.{inside_same}
 use Rattle.kernel_forest.specs.Trees.{forest_of, outside_trees, IsTreeKey, TreesGood}
 use Rattle.kernel_forest.specs.Moves.{Steps, Changes, TakesFresh}
 use Rattle.kernel_forest.proofs.InTrees.{AllTreeKeys, AllSingle}
@@ -224,6 +230,12 @@ module _ (k0 k1 : Kernel) (space fresh : NodeId) (to : Owner) (known : Outside) 
     unnamed = λ outside trees. (takes.free outside [] tt trees.shares).none_outside;
     outside_now = steps.outside_now;
     rows_now = steps.rows_now;
+    apart_now = steps.apart_now;
+    spelled_now = steps.spelled_now;
+    inside = λ outside. inside_same k0 k2 outside (steps.outside_now outside)
+        (λ number some.
+        let same = ap (λ (f : Forest). f.owner (PageObject number)) forest_is ∙ ap (λ (o : Object → Option Owner). o (PageObject number)) all.owner ∙ other_object (forest_of k0).owner (NodeObject fresh.0) (Some to) (PageObject number) (λ e. cc) in
+        ap is_some (sym same) ∙ some);
     rest = steps.rest;
     number = steps.number;
   }
@@ -233,3 +245,21 @@ module _ (k0 k1 : Kernel) (space fresh : NodeId) (to : Owner) (known : Outside) 
 
       forest_is : forest_of k2 ≡ copying (with_taken (forest_of k0) (NodeObject fresh.0) to) space.0 fresh.0 16
       forest_is = copies.steps.forest_now ∙ ap (λ f. copying f space.0 fresh.0 16) takes.steps.forest_now
+
+  -- ways of other spaces: what stands on them isn't shared
+  pub shared_ways : (k2 : Kernel) → Changes k1 k2 (copying (forest_of k1) space.0 fresh.0 16) 0 → KeepsOtherWays k0 k2 space.0
+  shared_ways k2 copies mine page is other own =
+      subst (λ f. OwnWay f mine (node_way page)) (sym (copies.steps.forest_now ∙ ap (λ f. copying f space.0 fresh.0 16) takes.steps.forest_now))
+      (root_keeps_way (forest_of k0) (copying (with_taken (forest_of k0) (NodeObject fresh.0) to) space.0 fresh.0 16) fresh.0 (λ d. at (forest_of k0).keys (place_of space.0 d)) known_trees.held.sound with_root mine is
+      (λ digit way object w way_own ends one.
+      let counted = all.counts object in
+      let taken : with_object (forest_of k0).count (NodeObject fresh.0) 1 object ≡ 1 = ⊎_elim
+      (λ (t : object ≡ NodeObject fresh.0). ap (with_object (forest_of k0).count (NodeObject fresh.0) 1) t ∙ with_object-here (forest_of k0).count (NodeObject fresh.0) 1)
+      (λ (t : object ≢ NodeObject fresh.0). other_object (forest_of k0).count (NodeObject fresh.0) 1 object t ∙ one)
+      (is_or_not object (NodeObject fresh.0)) in
+      let none : count_below (λ d. names object (at (forest_of k0).keys (place_of space.0 d))) 16 ≡ 0 =
+      none_below (λ d. names object (at (forest_of k0).keys (place_of space.0 d))) 16
+      (λ d less. not_named (at (forest_of k0).keys (place_of space.0 d)) object
+      (λ h. other (sym (own_is_alone (forest_of k0) (outside_trees k0 known) [] mine space.0 (digit ∷ way) (d ∷ []) object known_trees.held.sound known_trees.held.exact is is_space w (less, tt) way_own ends h).0))) in
+      omega arith)
+      (node_way page) (way_of_node page) own)

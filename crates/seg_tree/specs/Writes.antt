@@ -13,6 +13,7 @@ use Rattle.forest.specs.Walks.{Mapping, map_of}
 use Rattle.forest.specs.Forest.{Forest, IsSpace, NoneEmpty}
 use Rattle.forest.specs.Changes.{with_taken, with_key, lowered, IsFree}
 use Rattle.forest.specs.Calls.{ChangesMap, IsOwn}
+use Rattle.kernel_forest.specs.Apart.{KeepsApart, KeepsSpelled, KeepsInside}
 use Rattle.kernel_forest.specs.Trees.{forest_of, outside_trees, page_tree, AreTreeKeys, TreesGood}
 use Rattle.kernel_forest.specs.Releases.{KeepsUnreleased}
 use Rattle.seg_tree.specs.Ways.{HasOwnWay, KeepsWays}
@@ -40,6 +41,8 @@ pub record TakesCopy (old new : Kernel) (forest : Forest) (found fresh : ℕ) : 
   pub forest_now : forest_of new ≡ forest
   pub outside_now : (outside : Outside) → outside_trees new outside ≡ outside_trees old outside
   pub rows_now : KeepsRows old new
+  pub apart_now : KeepsApart old new
+  pub spelled_now : KeepsSpelled old new
   pub rest : KeepsUnreleased old new
   pub nodes : new.machine.nodes_taken ≡ old.machine.nodes_taken
   pub pages : new.machine.pages_taken ≡ old.machine.pages_taken + 1
@@ -72,8 +75,8 @@ pub record TakesOne (old new : Kernel) (page : ℕ) (owner : PageOwner) : Type 0
 
 -- A page that may be written at a page number of a space was made its own: `result` is mapped there, with the bytes of the page
 -- before, and no other space and no other page number reaches it. Nothing has changed where the page was own, and else one page
--- was taken. All other pages have the bytes that they had. Each way in any space that was its own is so still, and no node was
--- taken where the way to the page was.
+-- was taken. All other pages have the bytes that they had, and whatever belongs to no tree is as it was. Each way in any space
+-- that was its own is so still, and no node was taken where the way to the page was.
 pub record Owns (old new : Kernel) (space page result : ℕ) (owner : PageOwner) : Type 0 where
   pub found : Mapping
   pub mapped : map_of (forest_of old).keys space page ≡ Some found
@@ -88,6 +91,9 @@ pub record Owns (old new : Kernel) (space page result : ℕ) (owner : PageOwner)
   pub filled : NoneEmpty (forest_of old).keys → NoneEmpty (forest_of new).keys
   pub outside_now : (outside : Outside) → outside_trees new outside ≡ outside_trees old outside
   pub rows_now : KeepsRows old new
+  pub apart_now : KeepsApart old new
+  pub spelled_now : KeepsSpelled old new
+  pub inside : (outside : Outside) → TreesGood old outside [] → KeepsInside old new outside
   pub rest : KeepsUnreleased old new
   pub kept : IsOwn (forest_of old) space page found → (result ≡ found.page) × (new ≡ old)
   pub copied : (IsOwn (forest_of old) space page found → ⊥) → TakesOne old new result owner

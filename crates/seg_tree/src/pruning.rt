@@ -12,6 +12,7 @@ ghost use Rattle.forest.specs.Walks.{digits, map_of, place_of};
 ghost use Rattle.forest.specs.Forest.{IsSpace, Sound, EndsAt, OwnWay, NoneEmpty, NoneEmptyBut};
 ghost use Rattle.kernel_forest.specs.Trees.{forest_of, TreesGood};
 ghost use Rattle.seg_tree.specs.Blocks.{ChangesAtMost};
+ghost use Rattle.seg_tree.specs.Ways.{KeepsOtherWays, KeepsMappedWays};
 ghost use Rattle.seg_tree.specs.Prunes.{TakesOff, Prunes, Unmaps};
 
 use super::empty::is_empty;
@@ -62,6 +63,8 @@ pub fn prune<T: Store>(store: &mut T, space: NodeId, levels: u8, number: u32)
     requires own { OwnWay (forest_of (kernel_of (T.memory store.old))) space.0 (digits levels number) }
     requires ends { (node : ℕ) × EndsAt (forest_of (kernel_of (T.memory store.old))).keys space.0 (digits levels number) (NodeObject node) }
     ensures pruned { Prunes (kernel_of (T.memory store.old)) (kernel_of (T.memory store.new)) }
+    ensures ways { KeepsOtherWays (kernel_of (T.memory store.old)) (kernel_of (T.memory store.new)) space.0 }
+    ensures mapped_ways { KeepsMappedWays (kernel_of (T.memory store.old)) (kernel_of (T.memory store.new)) space.0 }
     ensures filled { (node : ℕ) → EndsAt (forest_of (kernel_of (T.memory store.old))).keys space.0 (digits levels number) (NodeObject node) → NoneEmptyBut (forest_of (kernel_of (T.memory store.old))).keys node → NoneEmpty (forest_of (kernel_of (T.memory store.new))).keys }
     ensures good { BankGood (kernel_of (T.memory store.new)) }
     ensures blocks { ChangesAtMost (T.blocks store.old) (T.blocks store.new) (4 * levels) }

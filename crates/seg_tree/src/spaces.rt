@@ -13,7 +13,7 @@ ghost use Rattle.forest.specs.Forest.{IsSpace};
 ghost use Rattle.kernel_forest.specs.Trees.{forest_of, node_tree, TreesGood, IsTreeKey};
 ghost use Rattle.seg_tree.specs.Blocks.{ChangesAtMost};
 ghost use Rattle.seg_tree.specs.Promises.{Remaps, Adds};
-ghost use Rattle.seg_tree.specs.Ways.{HasOwnWay};
+ghost use Rattle.seg_tree.specs.Ways.{HasOwnWay, KeepsWays, KeepsOtherWays};
 
 use super::leaf::{put_leaf, tree_owner};
 use super::steps::{copy_keys, lower_leaf, put_key, raise_key, take_tree_node};
@@ -87,6 +87,7 @@ pub fn new_space<T: Store>(store: &mut T, owner: NodeOwner, keeper: Key) -> Spac
     requires of_tree { IsTreeKey keeper }
     requires room { let old = kernel_of (T.memory store.old) in old.machine.nodes_taken + 15 < old.nodes }
     ensures added { Adds (kernel_of (T.memory store.old)) (kernel_of (T.memory store.new)) result.0.0 (node_tree owner) keeper (λ page. None) }
+    ensures ways { KeepsWays (kernel_of (T.memory store.old)) (kernel_of (T.memory store.new)) }
     ensures good { BankGood (kernel_of (T.memory store.new)) }
     ensures blocks { ChangesAtMost (T.blocks store.old) (T.blocks store.new) 3 }
     ensures keeps { T.keeps store.old store.new }
@@ -104,6 +105,7 @@ pub fn share<T: Store>(store: &mut T, space: Space) -> Space
     requires space { IsSpace (forest_of (kernel_of (T.memory store.old))) [] space.0.0 }
     requires room { let old = kernel_of (T.memory store.old) in old.machine.nodes_taken + 15 < old.nodes }
     ensures shared { let old = kernel_of (T.memory store.old) in let forest = forest_of old in Adds old (kernel_of (T.memory store.new)) result.0.0 (forest.owner (NodeObject space.0.0)) (at forest.keys (place_of space.0.0 15)) (map_of forest.keys space.0.0) }
+    ensures ways { KeepsOtherWays (kernel_of (T.memory store.old)) (kernel_of (T.memory store.new)) space.0.0 }
     ensures good { BankGood (kernel_of (T.memory store.new)) }
     ensures blocks { ChangesAtMost (T.blocks store.old) (T.blocks store.new) 19 }
     ensures keeps { T.keeps store.old store.new }

@@ -10,6 +10,7 @@ use Rattle.unix_model.specs.Tables.{at, with_at, count_below}
 use Rattle.unix_model.proofs.TableLaws.{at-with_at, at-with_at-other, count_below-step}
 use Rattle.forest.specs.Walks.{Mapping, map_of}
 use Rattle.forest.specs.Forest.{IsSpace}
+use Rattle.forest.proofs.RootLaws.{root_trans}
 use Rattle.kernel_forest.specs.Trees.{forest_of, TreesGood}
 use Rattle.seg_tree.proofs.Copying.{rest_trans}
 use Rattle.seg_tree.specs.Promises.{Remaps}
@@ -62,9 +63,13 @@ maps_none old space loads is empty = record {
   here = empty ∙ sym (below_none loads);
   ways = λ page none needed. absurd (omega arith);
   others = record { stay = λ other still apart. still; maps = λ other still apart. refl };
+  roots = λ other now. record { was = now; owner = refl; keeper = refl };
   filled = λ was. was;
   outside_now = λ outside. refl;
   rows_now = λ mine apart. refl;
+  apart_now = refl;
+  spelled_now = λ place some. some;
+  inside = λ outside within. within;
   rest = refl;
   most = omega arith;
 }
@@ -80,9 +85,13 @@ module _ (k0 k1 : Kernel) (space page : ℕ) (loads : List Load) (so_far : MapsP
         (λ (t : number ≡ page → ⊥). so_far.ways number (omega arith) needed)
         (cases_eq number page);
     others = so_far.others;
+    roots = so_far.roots;
     filled = so_far.filled;
     outside_now = so_far.outside_now;
     rows_now = so_far.rows_now;
+    apart_now = so_far.apart_now;
+    spelled_now = so_far.spelled_now;
+    inside = so_far.inside;
     rest = so_far.rest;
     most = let count : count_below (page_mapped loads) (page + 1) ≡ count_below (page_mapped loads) page = count_below-step (page_mapped loads) page ∙ rw other (omega arith) in
         let most = so_far.most in omega arith;
@@ -105,9 +114,15 @@ module _ (k0 k1 : Kernel) (space page : ℕ) (loads : List Load) (so_far : MapsP
           stay = λ other still apart. change.others.stay other (so_far.others.stay other still apart) apart;
           maps = λ other still apart. change.others.maps other (so_far.others.stay other still apart) apart ∙ so_far.others.maps other still apart;
         };
+        roots = λ other now.
+            let last = change.roots other now in
+            root_trans (forest_of k0) (forest_of k1) (forest_of k2) [] [] other (so_far.roots other last.was) last;
         filled = λ was. maps.filled (so_far.filled was);
         outside_now = λ outside. maps.outside_now outside ∙ so_far.outside_now outside;
         rows_now = λ mine apart. maps.rows_now mine apart ∙ so_far.rows_now mine apart;
+        apart_now = maps.apart_now ∙ so_far.apart_now;
+        spelled_now = λ place some. maps.spelled_now place (so_far.spelled_now place some);
+        inside = λ outside within. maps.inside outside (so_far.inside outside within);
         rest = rest_trans k0 k1 k2 so_far.rest maps.rest;
         most = let count : count_below (page_mapped loads) (page + 1) ≡ count_below (page_mapped loads) page + 1 = count_below-step (page_mapped loads) page ∙ rw needed refl in
             let most = so_far.most in let more = maps.most in omega arith;

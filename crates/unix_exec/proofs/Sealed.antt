@@ -11,6 +11,7 @@ use Rattle.unix_model.specs.Tables.{at, with_at}
 use Rattle.unix_model.proofs.TableLaws.{at-with_at, at-with_at-other}
 use Rattle.forest.specs.Walks.{Mapping, map_of}
 use Rattle.forest.specs.Forest.{IsSpace}
+use Rattle.forest.proofs.RootLaws.{root_trans}
 use Rattle.kernel_forest.specs.Trees.{forest_of, TreesGood}
 use Rattle.seg_tree.proofs.Copying.{rest_trans}
 use Rattle.seg_tree.specs.Promises.{Remaps}
@@ -65,9 +66,13 @@ seals_none old space loads is = record {
   here = sym (sealed_none loads (map_of (forest_of old).keys space));
   ways = λ page own. own;
   others = record { stay = λ other still apart. still; maps = λ other still apart. refl };
+  roots = λ other now. record { was = now; owner = refl; keeper = refl };
   filled = λ was. was;
   outside_now = λ outside. refl;
   rows_now = λ mine apart. refl;
+  apart_now = refl;
+  spelled_now = λ place some. some;
+  inside = λ outside within. within;
   rest = refl;
   nodes = refl;
 }
@@ -83,9 +88,13 @@ module _ (k0 k1 : Kernel) (space page : ℕ) (loads : List Load) (so_far : Seals
     here = so_far.here ∙ one_left loads (map_of (forest_of k0).keys space) page other;
     ways = so_far.ways;
     others = so_far.others;
+    roots = so_far.roots;
     filled = so_far.filled;
     outside_now = so_far.outside_now;
     rows_now = so_far.rows_now;
+    apart_now = so_far.apart_now;
+    spelled_now = so_far.spelled_now;
+    inside = so_far.inside;
     rest = so_far.rest;
     nodes = so_far.nodes;
   }
@@ -107,9 +116,15 @@ module _ (k0 k1 : Kernel) (space page : ℕ) (loads : List Load) (so_far : Seals
           stay = λ other still apart. change.others.stay other (so_far.others.stay other still apart) apart;
           maps = λ other still apart. change.others.maps other (so_far.others.stay other still apart) apart ∙ so_far.others.maps other still apart;
         };
+        roots = λ other now.
+            let last = change.roots other now in
+            root_trans (forest_of k0) (forest_of k1) (forest_of k2) [] [] other (so_far.roots other last.was) last;
         filled = λ was. maps.filled (so_far.filled was);
         outside_now = λ outside. maps.outside_now outside ∙ so_far.outside_now outside;
         rows_now = λ mine apart. maps.rows_now mine apart ∙ so_far.rows_now mine apart;
+        apart_now = maps.apart_now ∙ so_far.apart_now;
+        spelled_now = λ place some. maps.spelled_now place (so_far.spelled_now place some);
+        inside = λ outside within. maps.inside outside (so_far.inside outside within);
         rest = rest_trans k0 k1 k2 so_far.rest maps.rest;
         nodes = none ∙ so_far.nodes;
       }

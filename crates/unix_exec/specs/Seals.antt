@@ -7,8 +7,10 @@ use Rattle.unix_model.specs.declared.elf.Load.{Load}
 use Rattle.unix_model.specs.Loading.{page_mapped, page_writable}
 use Rattle.forest.specs.Walks.{Mapping, map_of}
 use Rattle.forest.specs.Forest.{IsSpace, NoneEmpty}
+use Rattle.forest.specs.Changes.{KeepsRoot}
 use Rattle.forest.specs.Calls.{KeepsOthers}
 use Rattle.kernel_forest.specs.Trees.{forest_of, outside_trees, TreesGood}
+use Rattle.kernel_forest.specs.Apart.{KeepsApart, KeepsSpelled, KeepsInside}
 use Rattle.kernel_forest.specs.Moves.{KeepsRest}
 use Rattle.seg_tree.specs.Ways.{HasOwnWay}
 
@@ -31,9 +33,13 @@ pub record SealsPlan (old new : Kernel) (space : ℕ) (loads : List Load) (limit
   pub here : map_of (forest_of new).keys space ≡ sealed_below loads limit (map_of (forest_of old).keys space)
   pub ways : (page : ℕ) → HasOwnWay old space page → HasOwnWay new space page
   pub others : KeepsOthers (forest_of old) (forest_of new) space
+  pub roots : (other : ℕ) → IsSpace (forest_of new) [] other → KeepsRoot (forest_of old) (forest_of new) [] other
   pub filled : NoneEmpty (forest_of old).keys → NoneEmpty (forest_of new).keys
   pub outside_now : (outside : Outside) → outside_trees new outside ≡ outside_trees old outside
   pub rows_now : KeepsRows old new
+  pub apart_now : KeepsApart old new
+  pub spelled_now : KeepsSpelled old new
+  pub inside : (outside : Outside) → KeepsInside old new outside
   pub rest : KeepsRest old new
   pub nodes : new.machine.nodes_taken ≡ old.machine.nodes_taken
 

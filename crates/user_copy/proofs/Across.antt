@@ -10,6 +10,7 @@ use Rattle.unix_model.specs.Memory.{Memory, Page, with_bytes, is_writable, all_w
 use Rattle.forest.specs.Walks.{Mapping, map_of}
 use Rattle.forest.specs.Forest.{Forest, IsSpace, Sound}
 use Rattle.forest.specs.Calls.{IsOwn}
+use Rattle.forest.proofs.RootLaws.{root_trans}
 use Rattle.kernel_forest.specs.Trees.{forest_of}
 use Rattle.seg_tree.proofs.Emptying.{unreleased_trans}
 use Rattle.user_copy.specs.SpaceMemory.{page_of, space_memory}
@@ -146,12 +147,16 @@ nothing_put kernel space address (byte ∷ bytes) none = absurd (omega arith)
 nothing_put kernel space address [] none = record {
   trees = λ outside was. was;
   spaces = λ other. (λ was. was, λ was. was);
+  roots = λ other is. record { was = is; owner = refl; keeper = refl };
   here = refl;
   others = λ other was apart. refl;
   own = λ page touched. absurd (let some : 0 < 0 = touched.0 in omega arith);
   filled = λ was. was;
   outside_now = λ outside. refl;
   rows_now = λ mine apart. refl;
+  apart_now = refl;
+  spelled_now = λ place some. some;
+  inside = λ outside was within. within;
   rest = refl;
   pages = λ number page off. refl;
   taken = λ taken counts. let zero_taken : taken ≡ 0 = counts in omega arith;
@@ -168,6 +173,7 @@ module _ (k0 k1 : Kernel) (space address : ℕ) (bytes : List ℕ) (is : IsSpace
   one_piece = record {
     trees = piece.trees;
     spaces = piece.owns.spaces;
+    roots = piece.owns.roots;
     here = piece.here;
     others = piece.others;
     own = λ page touched.
@@ -178,6 +184,9 @@ module _ (k0 k1 : Kernel) (space address : ℕ) (bytes : List ℕ) (is : IsSpace
     filled = piece.filled;
     outside_now = piece.outside_now;
     rows_now = piece.rows_now;
+    apart_now = piece.apart_now;
+    spelled_now = piece.spelled_now;
+    inside = piece.inside;
     rest = piece.rest;
     pages = λ number page off. piece.pages number page (λ e.
         off (address / 4096) (writable_mapping piece.result) (some, omega arith, omega arith) (map_here (forest_of k0) (forest_of k1) space (address / 4096) piece.result is piece.owns) (sym e));
@@ -257,12 +266,18 @@ module _ (k0 k1 k2 : Kernel) (space address next : ℕ) (first rest : List ℕ) 
   two_pieces = record {
     trees = λ outside was. b.trees outside (a.trees outside was);
     spaces = λ other. (λ was. (b.owns.spaces other).0 ((a.owns.spaces other).0 was), λ now. (a.owns.spaces other).1 ((b.owns.spaces other).1 now));
+    roots = λ other now.
+        let last = b.owns.roots other now in
+        root_trans (forest_of k0) (forest_of k1) (forest_of k2) [] [] other (a.owns.roots other last.was) last;
     here = memory_here;
     others = λ other was apart. b.others other ((a.owns.spaces other).0 was) apart ∙ a.others other was apart;
     own = λ p touched. own_pages p touched.1 touched.2;
     filled = λ was. b.filled (a.filled was);
     outside_now = λ outside. b.outside_now outside ∙ a.outside_now outside;
     rows_now = λ mine apart. b.rows_now mine apart ∙ a.rows_now mine apart;
+    apart_now = b.apart_now ∙ a.apart_now;
+    spelled_now = λ place some. b.spelled_now place (a.spelled_now place some);
+    inside = λ outside was within. b.inside outside (a.trees outside was) (a.inside outside was within);
     rest = unreleased_trans k0 k1 k2 a.rest b.rest;
     pages = λ number p off.
         b.pages number (subst (λ s. IsBankPage s number) (sym sizes) p) (λ e.

@@ -1,6 +1,7 @@
 -- What the memory of a space has at a page number.
-use Rattle.std.proofs.Common.{◌≡◌, ◌≤◌, ◌^◌, ℕ, true, false, nat_lt, Some, None, [], refl, ap, sym, ◌∙◌, ⊎_elim, inl, inr, ◌⊎◌}
+use Rattle.std.proofs.Common.{◌≡◌, ◌≢◌, ◌≤◌, ◌^◌, ℕ, true, false, nat_lt, Some, None, [], refl, ap, sym, ◌∙◌, ⊎_elim, inl, inr, ◌⊎◌}
 use Rattle.std.specs.Prelude.{option_map}
+use Rattle.std.specs.Option.{IsSome}
 use Rattle.std.proofs.lemmas.Bool.{cases_Bool, cases_eq, ne_eqb, le-ltb}
 use Rattle.kn_base.specs.declared.key.Key.{Key}
 use Rattle.kn_base.specs.declared.key.Key.TheVariants.{Page as PageKey}
@@ -9,7 +10,7 @@ use Rattle.space_bank.specs.Bank.{BankGood}
 use Rattle.unix_model.specs.Tables.{at}
 use Rattle.forest.specs.Objects.{PageObject, named}
 use Rattle.forest.specs.Walks.{Mapping, map_of, mapping_of, key_at_page, page_way}
-use Rattle.forest.specs.Forest.{Sound, IsSpace}
+use Rattle.forest.specs.Forest.{Forest, Sound, IsSpace}
 use Rattle.forest.proofs.CopyLaws.{end_owned}
 use Rattle.kernel_forest.specs.Trees.{forest_of}
 use Rattle.kernel_forest.proofs.Bridge.{page_inside}
@@ -39,14 +40,21 @@ map_key keys space page found e = ⊎_elim
     (λ (t : nat_lt page (2 ^ 19) ≡ false). let no : None ≡ Some found = rw t at e in cc)
     (cases_Bool (nat_lt page (2 ^ 19)))
 
+-- a mapped page that isn't page 0 belongs to a tree
+pub found_owned : (forest : Forest) (space page : ℕ) (found : Mapping) → Sound forest → IsSpace forest [] space → map_of forest.keys space page ≡ Some found → found.page ≢ 0
+    → IsSome (forest.owner (PageObject found.page))
+found_owned forest space page found sound is e real = ⊎_elim
+    (λ (t : found.page ≡ 0). absurd (real t))
+    (λ (t : named (key_at_page forest.keys space page) ≡ Some (PageObject found.page)). end_owned forest [] sound space is (page_way page) (PageObject found.page) t)
+    (mapped_key (key_at_page forest.keys space page) found (map_key forest.keys space page found e))
+
 -- a mapped page is page 0 or one of the bank
 pub found_inside : (kernel : Kernel) (space page : ℕ) (found : Mapping) → BankGood kernel → Sound (forest_of kernel) → IsSpace (forest_of kernel) [] space
     → map_of (forest_of kernel).keys space page ≡ Some found → (found.page ≡ 0) ⊎ IsBankPage kernel.size found.page
 found_inside kernel space page found good sound is e = ⊎_elim
     (λ (t : found.page ≡ 0). inl t)
-    (λ (t : named (key_at_page (forest_of kernel).keys space page) ≡ Some (PageObject found.page)).
-    inr (its_page kernel found.page (page_inside kernel found.page good (end_owned (forest_of kernel) [] sound space is (page_way page) (PageObject found.page) t))))
-    (mapped_key (key_at_page (forest_of kernel).keys space page) found (map_key (forest_of kernel).keys space page found e))
+    (λ (t : found.page ≢ 0). inr (its_page kernel found.page (page_inside kernel found.page good (found_owned (forest_of kernel) space page found sound is e t))))
+    (cases_eq found.page 0)
 
 -- what a memory has where the map has a page, or none
 pub memory_is : (kernel : Kernel) (space page : ℕ) → at (space_memory kernel space) page ≡ option_map (page_of (memory_page kernel)) (map_of (forest_of kernel).keys space page)

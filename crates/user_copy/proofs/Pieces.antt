@@ -15,12 +15,13 @@ use Rattle.unix_model.proofs.TableLaws.{at-with_at, at-with_at-other}
 use Rattle.forest.specs.Walks.{Mapping, map_of}
 use Rattle.forest.specs.Forest.{IsSpace, Sound}
 use Rattle.kernel_forest.specs.Trees.{forest_of, TreesGood}
+use Rattle.kernel_forest.proofs.ApartLaws.{apart-page_written}
 use Rattle.kernel_forest.specs.Releases.{KeepsUnreleased}
 use Rattle.seg_tree.proofs.Emptying.{unreleased_trans}
 use Rattle.user_copy.specs.SpaceMemory.{page_of, memory_by, space_memory}
-use Rattle.seg_tree.specs.Writes.{Owns}
+use Rattle.seg_tree.specs.Writes.{Owns, writable_mapping}
 use Rattle.user_copy.specs.Writing.{MakesOwn, PutsPiece}
-use Rattle.user_copy.proofs.Pages.{found_inside, memory_found}
+use Rattle.user_copy.proofs.Pages.{found_inside, found_owned, memory_found}
 use Rattle.user_copy.proofs.Bytes.{bytes_put}
 use Rattle.user_copy.proofs.Turns.{map_here, map_there}
 
@@ -53,6 +54,7 @@ module _ (k0 k1 : Kernel) (space address result : ℕ) (owner : PageOwner) (byte
   made : MakesOwn (forest_of k0) (forest_of k1) space (address / 4096) result
   made = record {
     spaces = owns.spaces;
+    roots = (owns.changes known trees).1.roots;
     here = (owns.changes known trees).1.here;
     others = λ other still apart. (owns.changes known trees).1.others.maps other still apart;
     own = owns.own;
@@ -156,6 +158,11 @@ module _ (k0 k1 : Kernel) (space address result : ℕ) (owner : PageOwner) (byte
     filled = owns.filled;
     outside_now = owns.outside_now;
     rows_now = owns.rows_now;
+    apart_now = apart-page_written k1 result (overwritten (bank_page k1 result) (address % 4096) bytes)
+        (found_owned (forest_of k1) space (address / 4096) (writable_mapping result) (owns.changes known trees).0.held.sound (owns.changes known trees).1.stays owns.own.mapped owns.own.real)
+        ∙ owns.apart_now;
+    spelled_now = owns.spelled_now;
+    inside = owns.inside;
     rest = rest_now;
     pages = bytes_there;
     kept = λ own. ap (λ (k : Kernel). k.machine.pages_taken) (owns.kept own).1;

@@ -8,16 +8,19 @@ use Rattle.unix_model.specs.Numbers.{pages_of}
 use Rattle.unix_model.specs.Tables.{with_at}
 use Rattle.forest.specs.Walks.{Mapping, map_of}
 use Rattle.forest.specs.Forest.{Forest, IsSpace, NoneEmpty}
+use Rattle.forest.specs.Changes.{KeepsRoot}
 use Rattle.forest.specs.Calls.{IsOwn}
 use Rattle.kernel_forest.specs.Trees.{forest_of, outside_trees, TreesGood}
+use Rattle.kernel_forest.specs.Apart.{KeepsApart, KeepsSpelled, KeepsInside}
 use Rattle.kernel_forest.specs.Releases.{KeepsUnreleased}
 use Rattle.user_copy.specs.SpaceMemory.{space_memory}
 use Rattle.seg_tree.specs.Writes.{writable_mapping}
 use Rattle.seg_tree.specs.Ways.{KeepsWays}
 
--- A page of a space was made its own, and may have become another page of the store.
+-- A page of a space was made its own, and may have become another page of the store. Spaces are the same, and keep their roots.
 pub record MakesOwn (old new : Forest) (space page result : ℕ) : Type 0 where
   pub spaces : (other : ℕ) → IsSpace old [] other ↔ IsSpace new [] other
+  pub roots : (other : ℕ) → IsSpace new [] other → KeepsRoot old new [] other
   pub here : map_of new.keys space ≡ with_at (map_of old.keys space) page (Some (writable_mapping result))
   pub others : (other : ℕ) → IsSpace old [] other → other ≢ space → map_of new.keys other ≡ map_of old.keys other
   pub own : IsOwn new space page (writable_mapping result)
@@ -61,6 +64,9 @@ pub record PutsPiece (old new : Kernel) (space at : ℕ) (bytes : List ℕ) : Ty
   pub filled : NoneEmpty (forest_of old).keys → NoneEmpty (forest_of new).keys
   pub outside_now : (outside : Outside) → outside_trees new outside ≡ outside_trees old outside
   pub rows_now : KeepsRows old new
+  pub apart_now : KeepsApart old new
+  pub spelled_now : KeepsSpelled old new
+  pub inside : (outside : Outside) → TreesGood old outside [] → KeepsInside old new outside
   pub rest : KeepsUnreleased old new
   pub pages : (number : ℕ) → IsBankPage old.size number → number ≢ result → bank_page new number ≡ bank_page old number
   pub kept : IsOwn (forest_of old) space (at / 4096) found → new.machine.pages_taken ≡ old.machine.pages_taken
@@ -69,16 +75,21 @@ pub record PutsPiece (old new : Kernel) (space at : ℕ) (bytes : List ℕ) : Ty
   pub most : new.machine.nodes_taken ≤ old.machine.nodes_taken + 4
 
 -- Bytes were put into a space, from an address on. The pages that they touch are own now, all other pages of the store have the
--- bytes that they had, what is mapped in the space is so still, and each way in any space that was its own.
+-- bytes that they had, what is mapped in the space is so still, and each way in any space that was its own. Spaces are the same,
+-- and keep their roots, and whatever belongs to no tree is as it was.
 pub record PutsBytes (old new : Kernel) (space at : ℕ) (bytes : List ℕ) : Type 0 where
   pub trees : (outside : Outside) → TreesGood old outside [] → TreesGood new outside []
   pub spaces : (other : ℕ) → IsSpace (forest_of old) [] other ↔ IsSpace (forest_of new) [] other
+  pub roots : (other : ℕ) → IsSpace (forest_of new) [] other → KeepsRoot (forest_of old) (forest_of new) [] other
   pub here : space_memory new space ≡ with_bytes (space_memory old space) at bytes
   pub others : (other : ℕ) → IsSpace (forest_of old) [] other → other ≢ space → space_memory new other ≡ space_memory old other
   pub own : (page : ℕ) → IsTouched at (length bytes) page → (result : ℕ) × IsOwn (forest_of new) space page (writable_mapping result)
   pub filled : NoneEmpty (forest_of old).keys → NoneEmpty (forest_of new).keys
   pub outside_now : (outside : Outside) → outside_trees new outside ≡ outside_trees old outside
   pub rows_now : KeepsRows old new
+  pub apart_now : KeepsApart old new
+  pub spelled_now : KeepsSpelled old new
+  pub inside : (outside : Outside) → TreesGood old outside [] → KeepsInside old new outside
   pub rest : KeepsUnreleased old new
   pub pages : (number : ℕ) → IsBankPage old.size number
       → ((page : ℕ) (found : Mapping) → IsTouched at (length bytes) page → map_of (forest_of new).keys space page ≡ Some found → found.page ≢ number)

@@ -32,7 +32,7 @@ pub prune-requires-clause-ends : goal.prune-requires-clause-ends
 prune-requires-clause-ends g c = unmapped_ends (kernel_of (g.T.Store.memory c.args.store.now)) (kernel_of (g.T.Store.memory c.put_leaf-was.new.store)) (kernel_of (g.T.Store.memory c.release_leaf.new.store)) c.args.space.0.0 c.args.page c.put_leaf-was.result c.put_leaf-was.ensures.put c.release_leaf.ensures.released c.release_leaf.ensures.nodes c.requires.trees.0 c.requires.trees.1 c.requires.space
 
 pub returns-clause-unmapped : goal.returns-clause-unmapped
-returns-clause-unmapped g c = unmaps (kernel_of (g.T.Store.memory c.args.store.now)) (kernel_of (g.T.Store.memory c.put_leaf-was.new.store)) (kernel_of (g.T.Store.memory c.release_leaf.new.store)) c.args.space.0.0 c.args.page c.put_leaf-was.result c.put_leaf-was.ensures.put c.release_leaf.ensures.released c.release_leaf.ensures.nodes c.requires.trees.0 c.requires.trees.1 c.requires.space (kernel_of (g.T.Store.memory c.prune.new.store)) c.prune.ensures.pruned c.prune.ensures.filled
+returns-clause-unmapped g c = unmaps (kernel_of (g.T.Store.memory c.args.store.now)) (kernel_of (g.T.Store.memory c.put_leaf-was.new.store)) (kernel_of (g.T.Store.memory c.release_leaf.new.store)) c.args.space.0.0 c.args.page c.put_leaf-was.result c.put_leaf-was.ensures.put c.release_leaf.ensures.released c.release_leaf.ensures.nodes c.requires.trees.0 c.requires.trees.1 c.requires.space (kernel_of (g.T.Store.memory c.prune.new.store)) c.prune.ensures.pruned c.prune.ensures.ways c.prune.ensures.mapped_ways c.prune.ensures.filled
 
 pub returns-clause-blocks : goal.returns-clause-blocks
 returns-clause-blocks g c =

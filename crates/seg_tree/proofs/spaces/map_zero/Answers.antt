@@ -1,7 +1,8 @@
-use Rattle.std.proofs.Common.{◌≡◌, Some, None, refl, ap, ◌∙◌}
+use Rattle.std.proofs.Common.{is_some, sym, ◌≡◌, Some, None, refl, ap, ◌∙◌}
 use Rattle.kn_base.specs.declared.key.Key.TheVariants.{Page}
 use Rattle.forest.specs.Objects.{named}
 use Rattle.kernel_tables.specs.Kernel.{kernel_of}
+use Rattle.kernel_forest.proofs.ApartLaws.{inside_same}
 use Rattle.kernel_forest.proofs.Giving.{lets_nothing}
 use Rattle.seg_tree.proofs.Children.{fits_tree}
 use Rattle.seg_tree.proofs.Mapping.{trees_nothing, leaf_null}
@@ -28,6 +29,9 @@ returns-clause-mapped g c =
       ways = put.ways;
       outside_now = put.outside_now;
       rows_now = put.rows_now;
+      apart_now = put.apart_now;
+      spelled_now = put.spelled_now;
+      inside = λ outside. inside_same old new outside (put.outside_now outside) (λ number some. ap is_some (sym (put.pages_now number)) ∙ some);
       rest = put.rest;
       most = put.most;
     }

@@ -2,7 +2,7 @@ use Rattle.std.proofs.Common.{arith}
 use Rattle.kernel_tables.specs.Kernel.{kernel_of}
 use Rattle.kernel_forest.specs.Trees.{node_tree}
 use Rattle.seg_tree.proofs.Levels.{some_owner}
-use Rattle.seg_tree.proofs.Adding.{added, fresh_owned, fresh_tree_key}
+use Rattle.seg_tree.proofs.Adding.{added, added_ways, fresh_owned, fresh_tree_key}
 use Rattle.seg_tree.proofs.BlockCounts.{at_most, more_at_most}
 use Rattle.seg_tree.proofs.spaces.new_space.Goals as goal
 
@@ -24,6 +24,13 @@ returns-clause-added g c =
     added (kernel_of (g.T.Store.memory c.args.store.now)) (kernel_of (g.T.Store.memory c.take_tree_node-root.new.store)) (kernel_of (g.T.Store.memory c.put_key.new.store))
     c.take_tree_node-root.result owner.0 c.args.keeper c.requires.keeper c.requires.of_tree c.requires.trees.1.held.sound
     (c.take_tree_node-root.ensures.taken owner.0 owner.1) c.put_key.ensures.put (node_tree c.args.owner) owner.1
+
+pub returns-clause-ways : goal.returns-clause-ways
+returns-clause-ways g c =
+    let owner = some_owner (node_tree c.args.owner) c.requires.tree in
+    added_ways (kernel_of (g.T.Store.memory c.args.store.now)) (kernel_of (g.T.Store.memory c.take_tree_node-root.new.store)) (kernel_of (g.T.Store.memory c.put_key.new.store))
+    c.take_tree_node-root.result owner.0 c.args.keeper c.requires.keeper c.requires.of_tree c.requires.trees.1.held.sound
+    (c.take_tree_node-root.ensures.taken owner.0 owner.1) c.put_key.ensures.put
 
 pub returns-clause-blocks : goal.returns-clause-blocks
 returns-clause-blocks g c =
