@@ -19,3 +19,4 @@ pub mod SharedPages
 pub mod HolesLeft
 pub mod KeepLaws
 pub mod StandingLaws
+pub mod SpacesStand

@@ -1,6 +1,6 @@
 -- What holds also within a turn, while states, counts and the flat state don't agree yet, and what agrees between turns; and how
 -- single calls keep what stands, each law as one statement.
-use Rattle.std.specs.Prelude.{◌≡◌, ◌↔◌, ◌<◌, ℕ, Option, Some, None, List, [], length, slice_set}
+use Rattle.std.specs.Prelude.{◌≡◌, ◌≢◌, ◌↔◌, ◌<◌, ℕ, Option, Some, None, List, [], length, slice_set}
 use Rattle.kn_base.specs.declared.key.Key.{Key}
 use Rattle.kernel_tables.specs.declared.description.Description.{Description}
 use Rattle.kernel_tables.specs.declared.entry.PageOwner.{PageOwner}
@@ -8,13 +8,22 @@ use Rattle.kernel_tables.specs.declared.inode.Inode.{Inode}
 use Rattle.kernel_tables.specs.declared.row.Row.{Row}
 use Rattle.kernel_tables.specs.declared.row.Row.TheVariants.{Used}
 use Rattle.kernel_tables.specs.Kernel.{Kernel, inode_at, first_page, memory_page, with_bank_page}
-use Rattle.kernel_tables.specs.Rows.{domain_rows}
+use Rattle.kernel_tables.specs.Rows.{domain_rows, KeepsRows}
 use Rattle.space_bank.specs.Bank.{BankGood}
 use Rattle.space_bank.specs.Fixed.{FixedNodes, UnusedGood}
-use Rattle.forest.specs.Forest.{NoneEmpty, NoPageOutside}
+use Rattle.space_bank.specs.Shares.{Outside}
+use Rattle.forest.specs.Changes.{KeepsRoot}
+use Rattle.forest.specs.Forest.{IsSpace, NoneEmpty, NoPageOutside}
+use Rattle.forest.specs.Objects.{NodeObject, OfProcess}
+use Rattle.forest.specs.Walks.{Mapping}
+use Rattle.kernel_forest.specs.Apart.{KeepsApart, KeepsInside}
+use Rattle.kernel_forest.specs.Releases.{KeepsUnreleased}
 use Rattle.kernel_forest.specs.Trees.{forest_of, outside_trees, page_tree, TreesGood}
 use Rattle.file_tables.specs.Roots.{named_by, ExchangesRoots}
 use Rattle.file_tables.specs.Rows.{InodesGood, DescriptionsGood}
+use Rattle.seg_tree.specs.Promises.{Remaps}
+use Rattle.user_copy.specs.SpaceMemory.{space_memory}
+use Rattle.user_copy.specs.Writing.{PutsBytes}
 use Rattle.domain.specs.Domains.{Domain, Life, domains}
 use Rattle.domain.specs.Rules.{RowsGood}
 use Rattle.domain.specs.Sets.{WritesNumbers}
@@ -27,7 +36,7 @@ use Rattle.kernel_machine.specs.Good.{Good, ParkedGood}
 use Rattle.kernel_machine.specs.Held.{AllHeld, AllWhole, NodesHeld}
 use Rattle.kernel_machine.specs.Machine.{machine_of, inodes_of, page_owner_of}
 use Rattle.kernel_machine.specs.Processes.{SlotsGood, IsInSlot, HoldingsGood}
-use Rattle.kernel_machine.specs.Trees.{IsRootOf, RootsGood, KeepersGood}
+use Rattle.kernel_machine.specs.Trees.{HasTree, IsFileTree, IsRootOf, RootsGood, KeepersGood}
 use Rattle.kernel_machine.specs.View.{view, processes_in, inodes_in, descriptions_in}
 
 -- who owns each page
@@ -114,6 +123,46 @@ StandingWithBytes =
     (old new : Kernel) (page : ℕ) (owner : PageOwner) (bytes : List ℕ)
     → at (page_owners old) page ≡ Some owner → page_tree owner ≡ None → length bytes ≡ 4096
     → new ≡ record old { bank = with_bank_page old page bytes } → BankGood new → Standing old → Standing new
+
+-- ---- calls on spaces
+
+-- A call on one space that leaves all others, their owners, their keepers and their memories, and whatever belongs to no tree. It
+-- may have taken and given back what belongs to trees.
+pub record LeavesSpaces (old new : Kernel) (space : ℕ) : Type 0 where
+  pub spaces : (other : ℕ) → IsSpace (forest_of old) [] other ↔ IsSpace (forest_of new) [] other
+  pub roots : (other : ℕ) → IsSpace (forest_of new) [] other → KeepsRoot (forest_of old) (forest_of new) [] other
+  pub memories : (other : ℕ) → IsSpace (forest_of old) [] other → other ≢ space → space_memory new other ≡ space_memory old other
+  pub trees : (outside : Outside) → TreesGood old outside [] → TreesGood new outside []
+  pub inside : (outside : Outside) → TreesGood old outside [] → KeepsInside old new outside
+  pub filled : NoneEmpty (forest_of old).keys → NoneEmpty (forest_of new).keys
+  pub rows_now : KeepsRows old new
+  pub apart_now : KeepsApart old new
+  pub rest : KeepsUnreleased old new
+
+-- Such are the calls that change a map and leave the bytes of all pages, ..
+abbrev pub RemapLeaves : Type 0
+RemapLeaves =
+    (old new : Kernel) (space few : ℕ) (map : ℕ → Option Mapping) (outside : Outside)
+    → TreesGood old outside [] → Remaps old new space few map → LeavesSpaces old new space
+
+-- .. and the one that puts bytes.
+abbrev pub PutLeaves : Type 0
+PutLeaves = (old new : Kernel) (space at : ℕ) (bytes : List ℕ) → PutsBytes old new space at bytes → LeavesSpaces old new space
+
+-- What stands stands on where the space is a process's, ..
+abbrev pub StandingWithMemory : Type 0
+StandingWithMemory =
+    (old new : Kernel) (space : ℕ)
+    → LeavesSpaces old new space → (forest_of old).owner (NodeObject space) ≡ Some OfProcess
+    → BankGood new → AllWhole new.bank → Standing old → Standing new
+
+-- .. and where it is the tree of a file or directory, which is one for the same length still.
+abbrev pub StandingWithTree : Type 0
+StandingWithTree =
+    (old new : Kernel) (space number : ℕ) (inode : Inode)
+    → LeavesSpaces old new space → at (inodes_of old) number ≡ Some inode → HasTree inode.kind → inode.root ≡ space
+    → IsFileTree (forest_of new).keys (memory_page new) space inode.length
+    → BankGood new → AllWhole new.bank → Standing old → Standing new
 
 -- ---- slots
 
