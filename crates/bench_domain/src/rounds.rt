@@ -39,7 +39,7 @@ pub fn write<T: Store>(store: &mut T, root: NodeId, rounds: u32) -> u32
 {
     let mut regs = Regs { x: [0; 32], pc: 0 };
     for round in 0..rounds {
-        regs.pc = round;
+        regs.pc = round / 4 * 4;
         set_regs(store, root, &regs);
     }
     regs.pc

@@ -1,5 +1,5 @@
 -- A domain of three fresh nodes.
-use Rattle.std.proofs.Common.{◌≡◌, ◌≢◌, ◌<◌, ◌≤◌, ◌+◌, ◌/◌, ◌%◌, ℕ, Option, Some, None, Bool, true, false, nat_lt, List, refl, ap, sym, ◌∙◌, arith, if◌then◌else◌, ⊎_elim, ◌⊎◌, inl, inr}
+use Rattle.std.proofs.Common.{◌≡◌, ◌≢◌, ◌<◌, ◌≤◌, ◌+◌, ◌/◌, ◌%◌, ℕ, Option, Some, None, Bool, true, false, nat_lt, List, refl, ap, sym, subst, ◌∙◌, arith, if◌then◌else◌, ⊎_elim, ◌⊎◌, inl, inr}
 use Rattle.std.proofs.Math.Path.{fun_ext}
 use Rattle.std.proofs.lemmas.Bool.{cases_eq, cases_lt, cases_Bool, lt-ltb, le-ltb, eq-eqb}
 use Rattle.kn_base.specs.declared.key.Key.{Key}
@@ -16,11 +16,13 @@ use Rattle.unix_model.specs.Tables.{at, with_at}
 use Rattle.unix_model.proofs.TableLaws.{with_at-same}
 use Rattle.domain.specs.Keys.{is_number, is_meter, node_in, root_in, word_in, count_in, key_of_space}
 use Rattle.domain.specs.Domains.{no_domain, full_domain, domain_by, domain_at, words_of, node_words, lives_by, life_in, roots_by}
-use Rattle.domain.specs.Rules.{RootGood, RootPlaces, RowsGood, NobodyIn, written}
+use Rattle.unix_model.specs.Rules.{IsBreak}
+use Rattle.domain.specs.Rules.{RootGood, RootPlaces, RowsGood, NumberFits, RegistersGood, DescriptorsGood, NobodyIn, written}
 use Rattle.domain.specs.Life.{with_zeros, null_row, zero_row, zero_number, root_row, born}
-use Rattle.domain.proofs.RowLaws.{here_at, other_at, changed_at, row_case, written_both, rows_good_same, number_no_node}
+use Rattle.domain.proofs.RowLaws.{here_at, other_at, changed_at, row_case, written_both, rows_good_same, unnamed_words_good, number_no_node}
 use Rattle.domain.proofs.DomainLaws.{domains_at, lives_row_same}
 use Rattle.domain.proofs.WordLaws.{number_no_meter, no_root}
+use Rattle.domain.proofs.WordRows.{three_four}
 
 -- the keys of a fresh node are Null, and nothing names it
 pub fresh_null : (old new : Kernel) (node : ℕ) → TakesRow old new node → domain_rows new node ≡ null_row
@@ -67,7 +69,7 @@ nobody_row rows n row m nobody none a i = row_case rows n row (λ (r : ℕ → K
 -- a row without Node keys, of a fresh node, which is no root's
 pub idle_good : (rows : ℕ → ℕ → Key) (n : ℕ) (row : ℕ → Key) → RowsGood rows → NobodyIn rows n → rows n ≡ null_row → ((i : ℕ) → node_in (row i) ≡ None) → is_meter (row 2) ≡ false → RowsGood (with_at rows n row)
 idle_good rows n row good nobody null plain none = rows_good_same rows n row good (λ i. plain i ∙ sym (ap (λ (r : ℕ → Key). node_in (r i)) null)) (λ a i j named low. absurd (nobody a i named))
-    (λ a i j named above. absurd (nobody a i named)) (λ meter. let no : false ≡ true = sym none ∙ meter in cc)
+    (λ a i j named above. absurd (nobody a i named)) (unnamed_words_good rows n row nobody) (λ meter. let no : false ≡ true = sym none ∙ meter in cc)
     (λ meter. let no : false ≡ true = sym none ∙ meter in cc)
 
 pub idle_domains : (rows : ℕ → ℕ → Key) (n : ℕ) (row : ℕ → Key) → NobodyIn rows n → rows n ≡ null_row → ((i : ℕ) → node_in (row i) ≡ None) → is_meter (row 2) ≡ false → domain_at (with_at rows n row) ≡ domain_at rows
@@ -81,6 +83,57 @@ idle_domains rows n row nobody null plain none =
 pub idle_lives : (rows fixed : ℕ → ℕ → Key) (n : ℕ) (row : ℕ → Key) → rows n ≡ null_row → is_meter (row 2) ≡ false → lives_by (with_at rows n row) fixed ≡ lives_by rows fixed
 idle_lives rows fixed n row null none = lives_row_same rows fixed n row (none ∙ sym (ap (λ (r : ℕ → Key). is_meter (r 2)) null))
     (λ meter. let no : false ≡ true = sym (ap (λ (r : ℕ → Key). is_meter (r 2)) null) ∙ meter in cc)
+
+-- no word of a fresh node says anything
+no_word : (key : Key) (r : ℕ) → r < 3 → word_in key 0 ≡ 0 → word_in key 1 ≡ 0 → word_in key 2 ≡ 0 → word_in key r ≡ 0
+no_word key r low a b d = ⊎_elim
+    (λ (e : r ≡ 0). ap (word_in key) e ∙ a)
+    (λ (f : r ≢ 0). ⊎_elim (λ (e : r ≡ 1). ap (word_in key) e ∙ b) (λ (h : r ≢ 1). ap (word_in key) (let two : r ≡ 2 = omega arith in two) ∙ d) (cases_eq r 1))
+    (cases_eq r 0)
+
+pub zero_word : (r : ℕ) → r < 3 → word_in zero_number r ≡ 0
+unfolding word_in
+zero_word r low = no_word zero_number r low refl refl refl
+
+null_word : (r : ℕ) → r < 3 → word_in Null r ≡ 0
+unfolding word_in
+null_word r low = no_word Null r low refl refl refl
+
+zero_words : (n : ℕ) → node_words zero_row n ≡ 0
+unfolding node_words
+zero_words n = ⊎_elim
+    (λ (t : n < 33). rw (lt-ltb n 33 t) (⊎_elim
+    (λ e. ap (λ k. word_in k (n % 3)) e ∙ zero_word (n % 3) (let low : n % 3 < 3 = omega arith in low))
+    (λ e. ap (λ k. word_in k (n % 3)) e ∙ null_word (n % 3) (let low : n % 3 < 3 = omega arith in low))
+    (zero_place (n / 3))))
+    (λ (t : 33 ≤ n). rw (le-ltb n 33 t) refl)
+    (cases_lt n 33)
+
+zero_registers_good : RegistersGood zero_row
+zero_registers_good = record { zero = zero_words 0; aligned = ap (λ w. w % 4) (zero_words 32) }
+
+zero_descriptors_good : DescriptorsGood zero_row
+zero_descriptors_good = record { fit = λ n low. let z = zero_words n in omega arith; unused = zero_words 32 }
+
+no_break : IsBreak 0 0
+no_break = record { start_aligned = refl; order = omega arith; limit = omega arith }
+
+zero_fits : (place : ℕ) → NumberFits place zero_number
+zero_fits place =
+    let first = zero_word 0 (omega arith) in
+    let second = zero_word 1 (omega arith) in
+    let third = zero_word 2 (omega arith) in
+    record {
+      number = refl;
+      state = λ e. omega arith;
+      phase = λ e. omega arith;
+      break = λ e. subst (λ n. IsBreak n (word_in zero_number 1)) (sym first) (subst (IsBreak 0) (sym second) no_break);
+      call = λ e. omega arith;
+      request = λ e. omega arith;
+      answer = λ e. omega arith;
+      parked = λ e. omega arith;
+      unused = λ e. third;
+    }
 
 -- ---- the root
 
@@ -126,6 +179,16 @@ module _ (rows : ℕ → ℕ → Key) (root a b : ℕ) (row : ℕ → Key) (good
   holds_nulls p i m j (fourth x y z) above = ap (λ n. rows n j) z ∙ ap (λ (r : ℕ → Key). r j) zero_b ∙ zero_is_null j above
   holds_nulls p i m j (as_before x) above = good.blank p i m j x above
 
+  holds_registers : (p i m : ℕ) → Names rows root a b p i m → i ≡ 3 → RegistersGood (rows m)
+  holds_registers p i m (third x y z) here = subst RegistersGood (sym (ap rows z ∙ zero_a)) zero_registers_good
+  holds_registers p i m (fourth x y z) here = absurd (three_four (sym here ∙ y))
+  holds_registers p i m (as_before x) here = (good.words m).registers p (ap (λ j. node_in (rows p j)) (sym here) ∙ x)
+
+  holds_descriptors : (p i m : ℕ) → Names rows root a b p i m → i ≡ 4 → DescriptorsGood (rows m)
+  holds_descriptors p i m (third x y z) here = absurd (three_four (sym y ∙ here))
+  holds_descriptors p i m (fourth x y z) here = subst DescriptorsGood (sym (ap rows z ∙ zero_b)) zero_descriptors_good
+  holds_descriptors p i m (as_before x) here = (good.words m).descriptors p (ap (λ j. node_in (rows p j)) (sym here) ∙ x)
+
   not_root : (p i m : ℕ) → Names rows root a b p i m → m ≡ root → ⊥
   not_root p i m (third x y z) e = root_a (sym e ∙ z)
   not_root p i m (fourth x y z) e = root_b (sym e ∙ z)
@@ -138,6 +201,10 @@ module _ (rows : ℕ → ℕ → Key) (root a b : ℕ) (row : ℕ → Key) (good
         (λ e. absurd (not_root p i m (names_in p i m h) e)) (λ d. holds_numbers p i m j (names_in p i m h) low);
     blank = λ p i m j h above. row_case rows root row (λ (r : ℕ → Key). r j ≡ Null) m
         (λ e. absurd (not_root p i m (names_in p i m h) e)) (λ d. holds_nulls p i m j (names_in p i m h) above);
+    words = λ m. record {
+      registers = λ p h. row_case rows root row RegistersGood m (λ e. absurd (not_root p 3 m (names_in p 3 m h) e)) (λ d. holds_registers p 3 m (names_in p 3 m h) refl);
+      descriptors = λ p h. row_case rows root row DescriptorsGood m (λ e. absurd (not_root p 4 m (names_in p 4 m h) e)) (λ d. holds_descriptors p 4 m (names_in p 4 m h) refl);
+    };
     places = λ m meter. row_case rows root row (λ (r : ℕ → Key). is_meter (r 2) ≡ true → RootPlaces r) m (λ e h. root_places) (λ d h. good.places m h) meter;
     roots = λ m meter. row_case rows root row (λ (r : ℕ → Key). is_meter (r 2) ≡ true → RootGood r) m (λ e h. root_good) (λ d h. good.roots m h) meter;
   }
@@ -160,31 +227,6 @@ born_lives rows fixed root row meter =
     (ap (λ (r : ℕ → Key). life_in (if is_meter (r 2) then r 6 else fixed root 6)) (here_at rows root row) ∙ ap (λ t. life_in (if t then row 6 else fixed root 6)) meter)
     (λ q apart. ap (λ (r : ℕ → Key). life_in (if is_meter (r 2) then r 6 else fixed q 6)) (other_at rows root q row apart))
 
--- no word of a fresh node says anything
-no_word : (key : Key) (r : ℕ) → r < 3 → word_in key 0 ≡ 0 → word_in key 1 ≡ 0 → word_in key 2 ≡ 0 → word_in key r ≡ 0
-no_word key r low a b d = ⊎_elim
-    (λ (e : r ≡ 0). ap (word_in key) e ∙ a)
-    (λ (f : r ≢ 0). ⊎_elim (λ (e : r ≡ 1). ap (word_in key) e ∙ b) (λ (h : r ≢ 1). ap (word_in key) (let two : r ≡ 2 = omega arith in two) ∙ d) (cases_eq r 1))
-    (cases_eq r 0)
-
-pub zero_word : (r : ℕ) → r < 3 → word_in zero_number r ≡ 0
-unfolding word_in
-zero_word r low = no_word zero_number r low refl refl refl
-
-null_word : (r : ℕ) → r < 3 → word_in Null r ≡ 0
-unfolding word_in
-null_word r low = no_word Null r low refl refl refl
-
-zero_words : (n : ℕ) → node_words zero_row n ≡ 0
-unfolding node_words
-zero_words n = ⊎_elim
-    (λ (t : n < 33). rw (lt-ltb n 33 t) (⊎_elim
-    (λ e. ap (λ k. word_in k (n % 3)) e ∙ zero_word (n % 3) (let low : n % 3 < 3 = omega arith in low))
-    (λ e. ap (λ k. word_in k (n % 3)) e ∙ null_word (n % 3) (let low : n % 3 < 3 = omega arith in low))
-    (zero_place (n / 3))))
-    (λ (t : 33 ≤ n). rw (le-ltb n 33 t) refl)
-    (cases_lt n 33)
-
 born_row : (life : Key) (slot space regs descriptors : ℕ) → full_domain (root_row life slot space regs descriptors) (λ n. 0) (λ n. 0) ≡ born slot space regs descriptors
 unfolding full_domain root_row with_zeros with_at word_in
 born_row life slot space regs descriptors = refl
@@ -195,35 +237,32 @@ born_is life slot space regs descriptors =
     ∙ ap (full_domain (root_row life slot space regs descriptors) (λ n. 0)) (fun_ext zero_words)
     ∙ born_row life slot space regs descriptors
 
-zeros_there : (place : ℕ) → 7 ≤ place → place < 13 → is_number (with_zeros null_row 7 13 place) ≡ true
+zeros_there : (place : ℕ) → 7 ≤ place → place < 13 → with_zeros null_row 7 13 place ≡ zero_number
 unfolding with_zeros
 zeros_there place low high = rw (le-ltb place 7 low, lt-ltb place 13 high) refl
 
-root_numbers : (life : Key) (slot space regs descriptors place : ℕ) → is_number life ≡ true → 6 ≤ place → place ≤ 12 → is_number (root_row life slot space regs descriptors place) ≡ true
+root_numbers : (life : Key) (slot space regs descriptors place : ℕ) → NumberFits 6 life → 6 ≤ place → place ≤ 12 → NumberFits place (root_row life slot space regs descriptors place)
 unfolding root_row
-root_numbers life slot space regs descriptors place number low high =
+root_numbers life slot space regs descriptors place fits low high =
     let r0 = with_zeros null_row 7 13 in
     let r1 = with_at r0 6 life in
     let r2 = with_at r1 2 (Meter slot) in
     let r3 = with_at r2 0 (key_of_space (Some space)) in
     let r4 = with_at r3 1 (Start (record { 0 = 1 }) slot) in
     let r5 = with_at r4 3 (Node (record { 0 = regs })) in
-    row_case r5 4 (Node (record { 0 = descriptors })) (λ k. is_number k ≡ true) place (λ e. absurd (omega arith)) (λ d5.
-    row_case r4 3 (Node (record { 0 = regs })) (λ k. is_number k ≡ true) place (λ e. absurd (omega arith)) (λ d4.
-    row_case r3 1 (Start (record { 0 = 1 }) slot) (λ k. is_number k ≡ true) place (λ e. absurd (omega arith)) (λ d3.
-    row_case r2 0 (key_of_space (Some space)) (λ k. is_number k ≡ true) place (λ e. absurd (omega arith)) (λ d2.
-    row_case r1 2 (Meter slot) (λ k. is_number k ≡ true) place (λ e. absurd (omega arith)) (λ d1.
-    row_case r0 6 life (λ k. is_number k ≡ true) place (λ e. number) (λ d0. zeros_there place (omega arith) (omega arith)))))))
+    row_case r5 4 (Node (record { 0 = descriptors })) (NumberFits place) place (λ e. absurd (omega arith)) (λ d5.
+    row_case r4 3 (Node (record { 0 = regs })) (NumberFits place) place (λ e. absurd (omega arith)) (λ d4.
+    row_case r3 1 (Start (record { 0 = 1 }) slot) (NumberFits place) place (λ e. absurd (omega arith)) (λ d3.
+    row_case r2 0 (key_of_space (Some space)) (NumberFits place) place (λ e. absurd (omega arith)) (λ d2.
+    row_case r1 2 (Meter slot) (NumberFits place) place (λ e. absurd (omega arith)) (λ d1.
+    row_case r0 6 life (NumberFits place) place (λ e. subst (λ p. NumberFits p life) (sym e) fits) (λ d0. subst (NumberFits place) (sym (zeros_there place (omega arith) (omega arith))) (zero_fits place)))))))
 
-pub born_root_good : (life : Key) (slot space regs descriptors : ℕ) → is_number life ≡ true → RootGood (root_row life slot space regs descriptors)
+pub born_root_good : (life : Key) (slot space regs descriptors : ℕ) → NumberFits 6 life → RootGood (root_row life slot space regs descriptors)
 unfolding root_row with_zeros with_at
-born_root_good life slot space regs descriptors number = record {
+born_root_good life slot space regs descriptors fits = record {
   of_space = refl;
   no_buffer = λ e. refl;
-  numbers = λ place low high. root_numbers life slot space regs descriptors place number low high;
-  call_fits = let z = zero_word 0 (omega arith) in omega arith;
-  request_fits = let z = zero_word 2 (omega arith) in omega arith;
-  answer_fits = let z = zero_word 2 (omega arith) in omega arith;
+  numbers = λ place low high. root_numbers life slot space regs descriptors place fits low high;
 }
 
 zeros_past : (place : ℕ) → 13 ≤ place → with_zeros null_row 7 13 place ≡ Null

@@ -158,7 +158,7 @@ lives_same rows fixed root place key low = fun_ext (λ m.
     ap (λ k. life_in (if is_meter k then written rows root place key m 6 else fixed m 6)) (written_other rows root place key m 2 (λ e. absurd (omega arith)))
     ∙ ap (λ k. life_in (if is_meter (rows m 2) then k else fixed m 6)) (written_other rows root place key m 6 (λ e. absurd (omega arith))))
 
-life_is : (key : Key) (state : State) (count : ℕ) → state_by (word_in key 0) ≡ state → count_in key ≡ count → life_in key ≡ record { state = state; count = count }
+pub life_is : (key : Key) (state : State) (count : ℕ) → state_by (word_in key 0) ≡ state → count_in key ≡ count → life_in key ≡ record { state = state; count = count }
 life_is key state count one two =
     ap (λ s. let l : Life = record { state = s; count = count_in key } in l) one
     ∙ ap (λ n. let l : Life = record { state = state; count = n } in l) two

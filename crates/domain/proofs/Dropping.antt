@@ -63,7 +63,7 @@ root_key_is row place good places is_root no_space no_page no_regs no_descriptor
     (λ (d4 : place ≢ 4). ⊎_elim
     (λ (e : place ≡ 5). nothing (ap row e ∙ good.no_buffer no_page))
     (λ (d5 : place ≢ 5). ⊎_elim
-    (λ (t : place < 13). number (good.numbers place (omega arith) (omega arith)))
+    (λ (t : place < 13). number (good.numbers place (omega arith) (omega arith)).number)
     (λ (t : 13 ≤ place). nothing (places.blank place t))
     (cases_lt place 13)) (cases_eq place 5)) (cases_eq place 4)) (cases_eq place 3)) (cases_eq place 2)) (cases_eq place 1)) (cases_eq place 0)
 

@@ -24,6 +24,7 @@ use Rattle.domain.proofs.RowLaws.{here_at, other_at, root_unnamed}
 use Rattle.domain.proofs.DomainLaws.{live_meter, root_domain}
 use Rattle.domain.proofs.FieldLaws.{written_two}
 use Rattle.domain.proofs.WordLaws.{number_no_meter}
+use Rattle.domain.proofs.WordRows.{three_four}
 use Rattle.domain.proofs.Pages.{null_outside}
 use Rattle.domain.proofs.Writing.{root_mine, row_key, domain_not_fixed}
 use Rattle.domain.proofs.Gone.{unnamed_row, wordless, unnamed_good, third_nobody, fourth_nobody, unnamed_domains, unnamed_lives, gone_nobody, gone_good, gone_domains, gone_lives, words_quiet, words_outside}
@@ -39,9 +40,6 @@ root_descriptors_node rows root live = ap (λ (d : Domain). d.descriptors_node) 
 row_at : (x : ℕ → ℕ → Key) (n m : ℕ) → at x n m ≡ x n m
 unfolding at
 row_at x n m = refl
-
-four_three : ◌≡◌ {A = ℕ} 4 3 → ⊥
-four_three e = cc
 
 node_is : (key : Key) (n : ℕ) → node_in key ≡ Some n → key ≡ Node (record { 0 = n })
 node_is (Node node) n e = let same : node.0 ≡ n = cc in ap (λ m. Node (record { 0 = m })) same
@@ -84,7 +82,7 @@ module _ (k0 k1 k2 k3 : Kernel) (root r d : ℕ) (rows0 : RowsGood (domain_rows 
   d_root e = root_unnamed (domain_rows k1) root rows1 meter1 root 4 (fourth1 ∙ ap Some e)
 
   d_r : d ≢ r
-  d_r e = four_three (rows1.single root 4 root 3 d fourth1 (third1 ∙ ap Some (sym e))).1
+  d_r e = three_four (sym (rows1.single root 4 root 3 d fourth1 (third1 ∙ ap Some (sym e))).1)
 
   module _ (p3 : PutsRow k1 k2 root 3 Null) (p4 : PutsRow k2 k3 root 4 Null) where
     mine2 : of_domain (entry_at k2.node_entries root) ≡ true

@@ -9,10 +9,10 @@ use Rattle.unix_model.specs.Tables.{at, with_at}
 use Rattle.unix_model.proofs.TableLaws.{with_at-same}
 use Rattle.domain.specs.Keys.{is_number, is_meter, node_in}
 use Rattle.domain.specs.Domains.{Domain, no_domain, full_domain, domain_by, domain_at, words_of, lives_by}
-use Rattle.domain.specs.Rules.{RootGood, RootPlaces, RowsGood, NobodyIn}
+use Rattle.domain.specs.Rules.{RootGood, RootPlaces, RowsGood, NumberFits, NobodyIn}
 use Rattle.domain.specs.Life.{null_row, and_all}
 use Rattle.domain.specs.Ends.{IsQuiet, row_keys}
-use Rattle.domain.proofs.RowLaws.{here_at, row_case, root_unnamed}
+use Rattle.domain.proofs.RowLaws.{here_at, row_case, root_unnamed, unnamed_words_good, words_good_row}
 use Rattle.domain.proofs.DomainLaws.{domains_at, a_root, root_domain, lives_row_same}
 use Rattle.domain.proofs.FieldLaws.{two_other}
 use Rattle.domain.proofs.WordLaws.{no_root}
@@ -52,10 +52,7 @@ unfolding with_at
 unnamed_root row good = record {
   of_space = good.of_space;
   no_buffer = good.no_buffer;
-  numbers = λ place low high. ap is_number (two_other row 3 4 place Null Null (λ e. absurd (omega arith)) (λ e. absurd (omega arith))) ∙ good.numbers place low high;
-  call_fits = good.call_fits;
-  request_fits = good.request_fits;
-  answer_fits = good.answer_fits;
+  numbers = λ place low high. subst (NumberFits place) (sym (two_other row 3 4 place Null Null (λ e. absurd (omega arith)) (λ e. absurd (omega arith)))) (good.numbers place low high);
 }
 
 third_gone : (row : ℕ → Key) → node_in (unnamed_row row 3) ≡ None
@@ -86,6 +83,7 @@ module _ (rows : ℕ → ℕ → Key) (root : ℕ) (good : RowsGood rows) (meter
         (λ e. absurd (root_unnamed rows root good meter a i (was a i m h ∙ ap Some e))) (λ d. good.plain a i m j (was a i m h) low);
     blank = λ a i m j h above. row_case rows root (unnamed_row (rows root)) (λ (r : ℕ → Key). r j ≡ Null) m
         (λ e. absurd (root_unnamed rows root good meter a i (was a i m h ∙ ap Some e))) (λ d. good.blank a i m j (was a i m h) above);
+    words = words_good_row rows root (unnamed_row (rows root)) was good.words (unnamed_words_good rows root (unnamed_row (rows root)) (root_unnamed rows root good meter));
     places = λ m. row_case rows root (unnamed_row (rows root)) (λ (r : ℕ → Key). is_meter (r 2) ≡ true → RootPlaces r) m
         (λ e h. unnamed_places (rows root) (good.places root meter)) (λ d. good.places m);
     roots = λ m. row_case rows root (unnamed_row (rows root)) (λ (r : ℕ → Key). is_meter (r 2) ≡ true → RootGood r) m
@@ -133,6 +131,7 @@ module _ (rows : ℕ → ℕ → Key) (n : ℕ) (good : RowsGood rows) (nobody :
     single = λ a i b j m h k. good.single a i b j m (had a i m h) (had b j m k);
     plain = λ a i m j h low. row_case rows n null_row (λ (r : ℕ → Key). is_number (r j) ≡ true) m (λ e. absurd (nobody a i (had a i m h ∙ ap Some e))) (λ d. good.plain a i m j (had a i m h) low);
     blank = λ a i m j h above. row_case rows n null_row (λ (r : ℕ → Key). r j ≡ Null) m (λ e. refl) (λ d. good.blank a i m j (had a i m h) above);
+    words = words_good_row rows n null_row had good.words (unnamed_words_good rows n null_row nobody);
     places = λ m. row_case rows n null_row (λ (r : ℕ → Key). is_meter (r 2) ≡ true → RootPlaces r) m (λ e h. let no : false ≡ true = h in cc) (λ d. good.places m);
     roots = λ m. row_case rows n null_row (λ (r : ℕ → Key). is_meter (r 2) ≡ true → RootGood r) m (λ e h. let no : false ≡ true = h in cc) (λ d. good.roots m);
   }

@@ -9,7 +9,7 @@ use Rattle.domain.specs.Keys.{is_meter, node_in, segment_in, key_of_space}
 use Rattle.domain.specs.Domains.{domains, domain_at, lives, lives_by}
 use Rattle.domain.specs.Rules.{RootGood, RowsGood, written}
 use Rattle.domain.specs.Sets.{HandsOver}
-use Rattle.domain.proofs.RowLaws.{row_case, root_unnamed, rows_good_same, places_kept, root_good_space}
+use Rattle.domain.proofs.RowLaws.{row_case, root_unnamed, rows_good_same, unnamed_words_good, places_kept, root_good_space}
 use Rattle.domain.proofs.DomainLaws.{live_meter}
 use Rattle.domain.proofs.FieldLaws.{space_set, lives_early, root_space}
 use Rattle.domain.proofs.Writing.{root_mine, hands_over, domain_not_fixed}
@@ -39,6 +39,7 @@ rows_good_root rows root place key good meter which none was now =
     (λ i. row_case (rows root) place key (λ k. node_in k ≡ node_in (rows root i)) i (λ e. none ∙ sym (ap (λ j. node_in (rows root j)) e ∙ was)) (λ d. refl))
     (λ a i j named below. absurd (root_unnamed rows root good meter a i named))
     (λ a i j named above. absurd (root_unnamed rows root good meter a i named))
+    (unnamed_words_good rows root (with_at (rows root) place key) (root_unnamed rows root good meter))
     (λ h. places_kept (rows root) place key (early_apart place which) (early_low place which) (good.places root meter))
     (λ h. now)
 

@@ -1,7 +1,9 @@
 pub mod RowLaws
+pub mod Fits
 pub mod DomainLaws
 pub mod FieldLaws
 pub mod WordLaws
+pub mod WordRows
 pub mod Writing
 pub mod Handing
 pub mod BlockSets
@@ -15,3 +17,8 @@ pub mod Clearing
 pub mod Gone
 pub mod Ending
 pub mod Dropping
+pub mod Passing
+pub mod KeysTested
+pub mod Tested
+pub mod Living
+pub mod Ruled

@@ -176,12 +176,12 @@ module _ (k0 k1 k2 k3 k4 k5 k6 k7 : Kernel) (slot space r d t : ℕ) (good : Row
   good6 : RowsGood (domain_rows k6)
   good6 = subst RowsGood (sym root.fills.rows_now)
       (born_good (domain_rows k5) t r d (root_row root.life slot space r d) good5 nobody_t nobody_r nobody_d r_d t_r t_d (root_third root.life slot space r d) (root_fourth root.life slot space r d)
-      (root_plain_keys root.life slot space r d root.number) zero_r zero_d (born_root_places root.life slot space r d) (born_root_good root.life slot space r d root.number))
+      (root_plain_keys root.life slot space r d root.fits.number) zero_r zero_d (born_root_places root.life slot space r d) (born_root_good root.life slot space r d root.fits))
 
   domains6 : domain_at (domain_rows k6) ≡ with_at (domain_at (domain_rows k0)) t (born slot space r d)
   domains6 = ap domain_at root.fills.rows_now
       ∙ born_domains (domain_rows k5) t r d (root_row root.life slot space r d) good5 nobody_t nobody_r nobody_d r_d t_r t_d (root_third root.life slot space r d) (root_fourth root.life slot space r d)
-      (root_plain_keys root.life slot space r d root.number) zero_r zero_d (born_root_places root.life slot space r d) (born_root_good root.life slot space r d root.number) (root_meter root.life slot space r d)
+      (root_plain_keys root.life slot space r d root.fits.number) zero_r zero_d (born_root_places root.life slot space r d) (born_root_good root.life slot space r d root.fits) (root_meter root.life slot space r d)
       ∙ ap (with_at (domain_at (domain_rows k5)) t) (born_is root.life slot space r d)
       ∙ ap (λ x. with_at x t (born slot space r d)) (ap domain_at rows5 ∙ domains4)
 

@@ -6,8 +6,8 @@ use Rattle.std.proofs.lemmas.Bool.{cases_eq, eq-eqb, ne_eqb}
 use Rattle.kn_base.specs.declared.key.Key.{Key}
 use Rattle.kn_base.specs.declared.key.Key.TheVariants.{Null, Number, Meter, Start}
 use Rattle.unix_model.specs.Tables.{at, with_at}
-use Rattle.domain.specs.Keys.{is_number, is_meter, meter_in, node_in, segment_in, page_in, word_in, key_of_space}
-use Rattle.domain.specs.Rules.{RootGood, RootPlaces, RowsGood, NumberFits, NobodyIn, written}
+use Rattle.domain.specs.Keys.{is_number, is_meter, meter_in, node_in, segment_in, page_in, key_of_space}
+use Rattle.domain.specs.Rules.{RootGood, RootPlaces, RowsGood, NumberFits, WordsGood, NobodyIn, written}
 
 pub here_at : {X : Type 0} (f : ℕ → X) (n : ℕ) (x : X) → with_at f n x n ≡ x
 unfolding with_at
@@ -94,6 +94,21 @@ places_kept row place key apart low is = record {
   blank = λ p above. other_at row place p key (λ e. absurd (omega arith)) ∙ is.blank p above;
 }
 
+-- the rows of a node that nobody names are right as words
+pub unnamed_words_good : (rows : ℕ → ℕ → Key) (node : ℕ) (row : ℕ → Key) → NobodyIn rows node → WordsGood rows node row
+unnamed_words_good rows node row nobody = record { registers = λ a named. absurd (nobody a 3 named); descriptors = λ a named. absurd (nobody a 4 named) }
+
+-- where each Node key was there before, rows that are right as words stay so
+pub words_good_before : (rows new : ℕ → ℕ → Key) (node : ℕ) (row : ℕ → Key) → ((a i : ℕ) → node_in (new a i) ≡ Some node → node_in (rows a i) ≡ Some node)
+    → WordsGood rows node row → WordsGood new node row
+words_good_before rows new node row was good = record { registers = λ a named. good.registers a (was a 3 named); descriptors = λ a named. good.descriptors a (was a 4 named) }
+
+-- one row is another
+pub words_good_row : (rows : ℕ → ℕ → Key) (n : ℕ) (row : ℕ → Key) → ((a i m : ℕ) → node_in (with_at rows n row a i) ≡ Some m → node_in (rows a i) ≡ Some m)
+    → ((m : ℕ) → WordsGood rows m (rows m)) → WordsGood rows n row → (m : ℕ) → WordsGood (with_at rows n row) m (with_at rows n row m)
+words_good_row rows n row was good now m = words_good_before rows (with_at rows n row) m (with_at rows n row m) (λ a i. was a i m)
+    (row_case rows n row (WordsGood rows m) m (λ e. subst (λ k. WordsGood rows k row) (sym e) now) (λ d. good m))
+
 -- a number is written in a root
 pub rows_good_number : (rows : ℕ → ℕ → Key) (root place : ℕ) (key : Key) → RowsGood rows → is_meter (rows root 2) ≡ true → 6 ≤ place → place ≤ 12 → NumberFits place key
     → RowsGood (written rows root place key)
@@ -102,6 +117,7 @@ rows_good_number rows root place key good meter low high fits = record {
   single = λ a i b j n h k. good.single a i b j n (was a i n h) (was b j n k);
   plain = λ a i n j h below. written_case rows root place key (λ k. is_number k ≡ true) n j (λ e. fits.number) (good.plain a i n j (was a i n h) below);
   blank = λ a i n j h above. written_both rows root place key (λ k. k ≡ Null) n j (λ e f. absurd (root_unnamed rows root good meter a i (was a i n h ∙ ap Some e))) (good.blank a i n j (was a i n h) above);
+  words = words_good_row rows root (with_at (rows root) place key) was good.words (unnamed_words_good rows root (with_at (rows root) place key) (root_unnamed rows root good meter));
   places = λ m. row_case rows root (with_at (rows root) place key) (λ (r : ℕ → Key). is_meter (r 2) ≡ true → RootPlaces r) m
       (λ e h. places_kept (rows root) place key (λ j above below e. absurd (omega arith)) (omega arith) (good.places root meter)) (λ d. good.places m);
   roots = λ m h.
@@ -109,10 +125,7 @@ rows_good_number rows root place key good meter low high fits = record {
       record {
         of_space = written_case rows root place key (λ k. k ≡ key_of_space (segment_in k)) m 0 (λ e. absurd (omega arith)) root_good.of_space;
         no_buffer = written_case rows root place key (λ k. page_in k ≡ None → k ≡ Null) m 5 (λ e. absurd (omega arith)) root_good.no_buffer;
-        numbers = λ j above below. written_case rows root place key (λ k. is_number k ≡ true) m j (λ e. fits.number) (root_good.numbers j above below);
-        call_fits = written_case rows root place key (λ k. word_in k 0 < 256) m 9 (λ e. fits.call_fits (sym e)) root_good.call_fits;
-        request_fits = written_case rows root place key (λ k. word_in k 2 ≤ 4096) m 10 (λ e. fits.request_fits (sym e)) root_good.request_fits;
-        answer_fits = written_case rows root place key (λ k. word_in k 2 ≤ 4096) m 11 (λ e. fits.answer_fits (sym e)) root_good.answer_fits;
+        numbers = λ j above below. written_case rows root place key (NumberFits j) m j (λ e. subst (λ p. NumberFits p key) (sym e) fits) (root_good.numbers j above below);
       };
 }
   where
@@ -123,14 +136,15 @@ rows_good_number rows root place key good meter low high fits = record {
 
 -- a row whose keys name the nodes that they named before, in place of a node's own
 pub rows_good_same : (rows : ℕ → ℕ → Key) (n : ℕ) (row : ℕ → Key) → RowsGood rows → ((i : ℕ) → node_in (row i) ≡ node_in (rows n i))
-    → ((a i j : ℕ) → node_in (rows a i) ≡ Some n → j < 11 → is_number (row j) ≡ true) → ((a i j : ℕ) → node_in (rows a i) ≡ Some n → 11 ≤ j → row j ≡ Null)
+    → ((a i j : ℕ) → node_in (rows a i) ≡ Some n → j < 11 → is_number (row j) ≡ true) → ((a i j : ℕ) → node_in (rows a i) ≡ Some n → 11 ≤ j → row j ≡ Null) → WordsGood rows n row
     → (is_meter (row 2) ≡ true → RootPlaces row) → (is_meter (row 2) ≡ true → RootGood row) → RowsGood (with_at rows n row)
-rows_good_same rows n row good names numbers blanks places root = record {
+rows_good_same rows n row good names numbers blanks words places root = record {
   single = λ a i b j m h k. good.single a i b j m (was a i m h) (was b j m k);
   plain = λ a i m j h below.
       row_case rows n row (λ (r : ℕ → Key). is_number (r j) ≡ true) m (λ e. numbers a i j (was a i m h ∙ ap Some e) below) (λ d. good.plain a i m j (was a i m h) below);
   blank = λ a i m j h above.
       row_case rows n row (λ (r : ℕ → Key). r j ≡ Null) m (λ e. blanks a i j (was a i m h ∙ ap Some e) above) (λ d. good.blank a i m j (was a i m h) above);
+  words = words_good_row rows n row was good.words words;
   places = λ m h. row_case rows n row (λ (r : ℕ → Key). is_meter (r 2) ≡ true → RootPlaces r) m (λ e. places) (λ d. good.places m) h;
   roots = λ m h. row_case rows n row (λ (r : ℕ → Key). is_meter (r 2) ≡ true → RootGood r) m (λ e. root) (λ d. good.roots m) h;
 }
@@ -145,18 +159,12 @@ pub root_good_space : (row : ℕ → Key) (key : Key) → RootGood row → key �
 root_good_space row key good is = record {
   of_space = row_case row 0 key (λ k. k ≡ key_of_space (segment_in k)) 0 (λ e. is) (λ d. good.of_space);
   no_buffer = row_case row 0 key (λ k. page_in k ≡ None → k ≡ Null) 5 (λ e. absurd (omega arith)) (λ d. good.no_buffer);
-  numbers = λ place above below. row_case row 0 key (λ k. is_number k ≡ true) place (λ e. absurd (omega arith)) (λ d. good.numbers place above below);
-  call_fits = row_case row 0 key (λ k. word_in k 0 < 256) 9 (λ e. absurd (omega arith)) (λ d. good.call_fits);
-  request_fits = row_case row 0 key (λ k. word_in k 2 ≤ 4096) 10 (λ e. absurd (omega arith)) (λ d. good.request_fits);
-  answer_fits = row_case row 0 key (λ k. word_in k 2 ≤ 4096) 11 (λ e. absurd (omega arith)) (λ d. good.answer_fits);
+  numbers = λ place above below. row_case row 0 key (NumberFits place) place (λ e. absurd (omega arith)) (λ d. good.numbers place above below);
 }
 
 pub root_good_buffer : (row : ℕ → Key) (key : Key) → RootGood row → (page_in key ≡ None → key ≡ Null) → RootGood (with_at row 5 key)
 root_good_buffer row key good is = record {
   of_space = row_case row 5 key (λ k. k ≡ key_of_space (segment_in k)) 0 (λ e. absurd (omega arith)) (λ d. good.of_space);
   no_buffer = row_case row 5 key (λ k. page_in k ≡ None → k ≡ Null) 5 (λ e. is) (λ d. good.no_buffer);
-  numbers = λ place above below. row_case row 5 key (λ k. is_number k ≡ true) place (λ e. absurd (omega arith)) (λ d. good.numbers place above below);
-  call_fits = row_case row 5 key (λ k. word_in k 0 < 256) 9 (λ e. absurd (omega arith)) (λ d. good.call_fits);
-  request_fits = row_case row 5 key (λ k. word_in k 2 ≤ 4096) 10 (λ e. absurd (omega arith)) (λ d. good.request_fits);
-  answer_fits = row_case row 5 key (λ k. word_in k 2 ≤ 4096) 11 (λ e. absurd (omega arith)) (λ d. good.answer_fits);
+  numbers = λ place above below. row_case row 5 key (NumberFits place) place (λ e. absurd (omega arith)) (λ d. good.numbers place above below);
 }

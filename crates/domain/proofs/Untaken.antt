@@ -12,6 +12,7 @@ use Rattle.space_bank.specs.FreeList.{taken_one, taken_count}
 use Rattle.space_bank.specs.Bank.{BankGood}
 use Rattle.domain.specs.Rules.{RowsGood}
 use Rattle.domain.specs.Life.{UntakenRowsGood, null_row}
+use Rattle.domain.proofs.RowLaws.{unnamed_words_good}
 
 none_taken : {O : Type 0} (entries : List (Entry O)) (n : ℕ) → sum_by taken_one entries ≡ 0 → taken_one (entry_at entries n) ≡ 0
 none_taken [] n e = refl
@@ -34,6 +35,7 @@ null_rows = record {
   single = λ a i b j node h k. let no : None ≡ Some node = h in cc;
   plain = λ a i node j h low. let no : None ≡ Some node = h in cc;
   blank = λ a i node j h above. let no : None ≡ Some node = h in cc;
+  words = λ node. unnamed_words_good (λ n. null_row) node null_row (λ a i h. let no : None ≡ Some node = h in cc);
   places = λ root meter. let no : false ≡ true = meter in cc;
   roots = λ root meter. let no : false ≡ true = meter in cc;
 }

@@ -1,9 +1,9 @@
 -- The register node and the descriptor node of a domain, while numbers are written in them.
-use Rattle.std.proofs.Common.{◌≡◌, ◌≢◌, ◌<◌, ◌≤◌, ◌+◌, ◌-◌, ◌*◌, ◌/◌, ◌%◌, ◌^◌, ◌&&◌, ◌⊎◌, ℕ, Bool, Option, Some, None, true, false, nat_lt, List, [], ◌∷◌, length, get_or, get_or-set_same, get_or-set_other, set, refl, ap, sym, ◌∙◌, arith, ⊎_elim, if◌then◌else◌, zero, suc, replicate}
+use Rattle.std.proofs.Common.{◌≡◌, ◌≢◌, ◌<◌, ◌≤◌, ◌+◌, ◌-◌, ◌*◌, ◌/◌, ◌%◌, ◌⊎◌, ℕ, Option, Some, None, true, false, nat_lt, List, [], ◌∷◌, length, get_or, get_or-set_same, get_or-set_other, set, refl, ap, sym, ◌∙◌, arith, ⊎_elim, if◌then◌else◌, zero, suc, replicate}
 use Rattle.std.specs.Option.{is_some, ForSome}
 use Rattle.std.specs.Prelude.{MatchOption}
 use Rattle.std.proofs.Math.Path.{fun_ext}
-use Rattle.std.proofs.lemmas.Bool.{cases_eq, cases_lt, lt-ltb, le-ltb, ne_eqb}
+use Rattle.std.proofs.lemmas.Bool.{and_parts, cases_eq, cases_lt, lt-ltb, le-ltb, ne_eqb}
 use Rattle.std.proofs.lemmas.List.{get_or_push, length-append, length-set, ext_get_or}
 use Rattle.std.proofs.Math.ListN.{get_or-append}
 use Rattle.kn_base.specs.declared.key.Key.{Key}
@@ -13,7 +13,7 @@ use Rattle.unix_model.specs.declared.instructions.Regs.{Regs}
 use Rattle.unix_model.proofs.TableLaws.{with_at-twice, with_at-same}
 use Rattle.domain.specs.Keys.{is_number, is_meter, node_in, word_in, words_in}
 use Rattle.domain.specs.Domains.{Domain, no_domain, full_domain, domain_by, domain_at, words_of, node_words, words_by, regs_by, description_by, lives_by}
-use Rattle.domain.specs.Rules.{RowsGood, IsNamed, written}
+use Rattle.domain.specs.Rules.{RowsGood, IsNamed, WordsGood, written}
 use Rattle.domain.specs.Sets.{HoldsWords}
 use Rattle.domain.proofs.RowLaws.{here_at, other_at, changed_at, row_case, number_no_node, root_unnamed, rows_good_same}
 use Rattle.domain.proofs.FieldLaws.{root_whole}
@@ -88,15 +88,28 @@ descriptors_row_set rows root node row descriptors good meter named none is =
     ∙ ap (λ (d : Domain). let e : Domain = record d { descriptors = descriptors } in e) (sym (root_domain rows root meter)))
 
 -- a number in place of a number of a node of words
-pub words_good : (rows : ℕ → ℕ → Key) (node place : ℕ) (key : Key) → RowsGood rows → IsNamed rows node → place < 11 → is_number key ≡ true → RowsGood (written rows node place key)
-unfolding at
-words_good rows node place key good is below number =
-    rows_good_same rows node (with_at (rows node) place key) good
-    (λ i. row_case (rows node) place key (λ k. node_in k ≡ node_in (rows node i)) i
+pub row_names : (rows : ℕ → ℕ → Key) (node place : ℕ) (key : Key) → RowsGood rows → IsNamed rows node → place < 11 → is_number key ≡ true → (i : ℕ) → node_in (with_at (rows node) place key i) ≡ node_in (rows node i)
+row_names rows node place key good is below number i = row_case (rows node) place key (λ k. node_in k ≡ node_in (rows node i)) i
     (λ e. number_no_node key number ∙ sym (ap (λ j. node_in (rows node j)) e ∙ number_no_node (rows node place) (good.plain is.by is.place node place is.named below)))
-    (λ d. refl))
+    (λ d. refl)
+
+-- each key names the node that it named
+pub names_kept : (rows : ℕ → ℕ → Key) (node place : ℕ) (key : Key) → RowsGood rows → IsNamed rows node → place < 11 → is_number key ≡ true
+    → (a i : ℕ) → node_in (written rows node place key a i) ≡ node_in (rows a i)
+unfolding at
+names_kept rows node place key good is below number a i = row_case rows node (with_at (rows node) place key) (λ (r : ℕ → Key). node_in (r i) ≡ node_in (rows a i)) a
+    (λ e. row_names rows node place key good is below number i ∙ ap (λ k. node_in (rows k i)) (sym e))
+    (λ d. refl)
+
+pub words_good : (rows : ℕ → ℕ → Key) (node place : ℕ) (key : Key) → RowsGood rows → IsNamed rows node → place < 11 → is_number key ≡ true → WordsGood rows node (with_at (rows node) place key)
+    → RowsGood (written rows node place key)
+unfolding at
+words_good rows node place key good is below number words =
+    rows_good_same rows node (with_at (rows node) place key) good
+    (row_names rows node place key good is below number)
     (λ a i j h low. row_case (rows node) place key (λ k. is_number k ≡ true) j (λ e. number) (λ d. good.plain a i node j h low))
     (λ a i j h above. other_at (rows node) place j key (λ e. absurd (omega arith)) ∙ good.blank a i node j h above)
+    words
     (λ meter. let no : false ≡ true = sym (words_still rows node place key good is number) ∙ meter in cc)
     (λ meter. let no : false ≡ true = sym (words_still rows node place key good is number) ∙ meter in cc)
   where
@@ -105,20 +118,6 @@ words_good rows node place key good is below number =
 
 pub words_keep_no_root : (rows : ℕ → ℕ → Key) (node place : ℕ) (key : Key) → RowsGood rows → IsNamed rows node → is_number key ≡ true → is_meter (with_at (rows node) place key 2) ≡ false
 words_keep_no_root rows node place key good is number = row_case (rows node) place key (λ k. is_meter k ≡ false) 2 (λ e. number_no_meter key number) (λ d. words_no_root rows node good is)
-
--- a node of words stays named
-pub still_named : (rows : ℕ → ℕ → Key) (node place : ℕ) (key : Key) → RowsGood rows → IsNamed rows node → place < 11 → is_number key ≡ true → IsNamed (written rows node place key) node
-unfolding at
-still_named rows node place key good is below number = record {
-  by = is.by;
-  place = is.place;
-  named = row_case rows node (with_at (rows node) place key) (λ (r : ℕ → Key). node_in (r is.place) ≡ Some node) is.by
-      (λ e. row_case (rows node) place key (λ k. node_in k ≡ Some node) is.place
-      (λ f.
-      let no : None ≡ Some node = sym (number_no_node (rows node place) (good.plain is.by is.place node place is.named below)) ∙ ap (λ j. node_in (rows node j)) (sym f) ∙ ap (λ k. node_in (rows k is.place)) (sym e) ∙ is.named in cc)
-      (λ d. ap (λ k. node_in (rows k is.place)) (sym e) ∙ is.named))
-      (λ d. is.named);
-}
 
 -- lives, while a node of words changes
 pub words_lives : (rows fixed : ℕ → ℕ → Key) (node : ℕ) (row : ℕ → Key) → is_meter (rows node 2) ≡ false → is_meter (row 2) ≡ false → lives_by (with_at rows node row) fixed ≡ lives_by rows fixed
@@ -189,7 +188,7 @@ one_word key words r low e = ⊎_elim
     (cases_eq r 1))
     (cases_eq r 0)
 
-word_kept : (row : ℕ → Key) (number word : ℕ) (key : Key) → words_in key ≡ set (words_in (row (number / 3))) (number % 3) word
+pub word_kept : (row : ℕ → Key) (number word : ℕ) (key : Key) → words_in key ≡ set (words_in (row (number / 3))) (number % 3) word
     → (q : ℕ) → q ≢ number → node_words (with_at row (number / 3) key) q ≡ node_words row q
 unfolding node_words
 word_kept row number word key words q apart = ap (λ w. if nat_lt q 33 then w else 0)
@@ -203,16 +202,21 @@ word_kept row number word key words q apart = ap (λ w. if nat_lt q 33 then w el
     ∙ ap (λ m. word_in (row m) (q % 3)) (sym e))
     (λ d. refl))
 
+-- the word that was written
+pub word_now : (row : ℕ → Key) (number word : ℕ) (key : Key) → number < 32 → words_in key ≡ set (words_in (row (number / 3))) (number % 3) word
+    → node_words (with_at row (number / 3) key) number ≡ word
+word_now row number word key low words =
+    word_of (with_at row (number / 3) key) number (omega arith)
+    ∙ ap (λ k. word_in k (number % 3)) (here_at row (number / 3) key)
+    ∙ one_word key (set (words_in (row (number / 3))) (number % 3) word) (number % 3) (let l : number % 3 < 3 = omega arith in l) words
+    ∙ get_or-set_same (words_in (row (number / 3))) (number % 3) word 0 (let l : number % 3 < 3 = omega arith in l)
+
 pub descriptor_changed : (row : ℕ → Key) (number word : ℕ) (key : Key) (description : Option ℕ) → number < 32
     → words_in key ≡ set (words_in (row (number / 3))) (number % 3) word → description_by word ≡ description
     → (λ n. description_by (node_words (with_at row (number / 3) key) n)) ≡ with_at (λ n. description_by (node_words row n)) number description
 descriptor_changed row number word key description low words is =
     changed_at (λ n. description_by (node_words row n)) (λ n. description_by (node_words (with_at row (number / 3) key) n)) number description
-    (ap description_by (word_of (with_at row (number / 3) key) number (omega arith)
-    ∙ ap (λ k. word_in k (number % 3)) (here_at row (number / 3) key)
-    ∙ one_word key (set (words_in (row (number / 3))) (number % 3) word) (number % 3) (let l : number % 3 < 3 = omega arith in l) words
-    ∙ get_or-set_same (words_in (row (number / 3))) (number % 3) word 0 (let l : number % 3 < 3 = omega arith in l))
-    ∙ is)
+    (ap description_by (word_now row number word key low words) ∙ is)
     (λ q apart. ap description_by (word_kept row number word key words q apart))
 
 -- registers that are read three at a time
@@ -280,23 +284,14 @@ unfolding full_domain
 root_descriptors rows root named live is =
     ap (λ (d : Domain). d.descriptors) (root_domain rows root (live_meter rows root live)) ∙ ap (λ o. λ n. description_by (words_of rows o n)) is
 
-and_left : (a b : Bool) → (a && b) ≡ true → a ≡ true
-and_left true b e = refl
-and_left false b e = cc
-
-and_right : (a b : Bool) → (a && b) ≡ true → b ≡ true
-and_right true true e = refl
-and_right true false e = cc
-and_right false b e = cc
-
 pub whole_named : (rows : ℕ → ℕ → Key) (root place : ℕ) → (at (domain_at rows) root).live ≡ true → (at (domain_at rows) root).whole ≡ true → (place ≡ 3) ⊎ (place ≡ 4) → node_in (rows root place) ≡ None → ⊥
 whole_named rows root place live whole which none =
     let both = sym (root_whole rows root live) ∙ whole in
     ⊎_elim
     (λ (e : place ≡ 3).
-    let no : false ≡ true = ap is_some (sym (ap (λ p. node_in (rows root p)) (sym e) ∙ none)) ∙ and_left (is_some (node_in (rows root 3))) (is_some (node_in (rows root 4))) both in cc)
+    let no : false ≡ true = ap is_some (sym (ap (λ p. node_in (rows root p)) (sym e) ∙ none)) ∙ (and_parts (is_some (node_in (rows root 3))) (is_some (node_in (rows root 4))) both).0 in cc)
     (λ (e : place ≡ 4).
-    let no : false ≡ true = ap is_some (sym (ap (λ p. node_in (rows root p)) (sym e) ∙ none)) ∙ and_right (is_some (node_in (rows root 3))) (is_some (node_in (rows root 4))) both in cc)
+    let no : false ≡ true = ap is_some (sym (ap (λ p. node_in (rows root p)) (sym e) ∙ none)) ∙ (and_parts (is_some (node_in (rows root 3))) (is_some (node_in (rows root 4))) both).1 in cc)
     which
 
 -- registers are set
@@ -318,7 +313,11 @@ description_again None word e low = ap description_by e
 description_again (Some n) word e low = ap description_by e ∙ back n (low n refl)
   where
     back : (n : ℕ) → n < 2048 → description_by (n + 1) ≡ Some n
-    back n low = rw (ne_eqb (n + 1) 0 (λ e. absurd (omega arith))) (ap Some (let e : (n + 1 - 1) % 2 ^ 16 ≡ n = omega arith in e))
+    back n low = rw (ne_eqb (n + 1) 0 (λ e. absurd (omega arith))) (ap Some (let e : n + 1 - 1 ≡ n = omega arith in e))
+
+pub word_few : (description : Option ℕ) (word : ℕ) → MatchOption description (word ≡ 0) (λ n. word ≡ n + 1) → ForSome description (λ n. n < 2048) → word ≤ 2048
+word_few None word e low = omega arith
+word_few (Some n) word e low = let few = low n refl in omega arith
 
 pub descriptor_set : (rows : ℕ → ℕ → Key) (root node number word : ℕ) (key : Key) (description : Option ℕ) → RowsGood rows → (at (domain_at rows) root).live ≡ true → node_in (rows root 4) ≡ Some node
     → number < 32 → is_number key ≡ true → words_in key ≡ set (words_in (rows node (number / 3))) (number % 3) word → description_by word ≡ description

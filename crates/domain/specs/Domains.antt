@@ -1,6 +1,6 @@
 -- The domains of processes, by the numbers of their roots. A domain has three nodes: its root, one with the words of its
 -- registers and one with those of its descriptors. A root is told by the Meter key in it.
-use Rattle.std.specs.Prelude.{ℕ, ◌+◌, ◌-◌, ◌/◌, ◌%◌, ◌^◌, ◌==◌, ◌&&◌, nat_lt, Bool, true, false, Option, Some, None, is_some, List, [], ◌∷◌, ◌++◌, replicate, slice_index, if◌then◌else◌}
+use Rattle.std.specs.Prelude.{ℕ, ◌+◌, ◌-◌, ◌/◌, ◌%◌, ◌==◌, ◌&&◌, nat_lt, Bool, true, false, Option, Some, None, is_some, List, [], ◌∷◌, ◌++◌, replicate, slice_index, if◌then◌else◌}
 use Rattle.kn_base.specs.declared.key.Key.{Key}
 use Rattle.kernel_tables.specs.Kernel.{Kernel}
 use Rattle.kernel_tables.specs.Rows.{domain_rows, fixed_rows}
@@ -15,7 +15,7 @@ use Rattle.domain.specs.declared.types.Heads.{Heads}
 use Rattle.domain.specs.declared.types.Answer.{Answer}
 use Rattle.domain.specs.Keys.{is_meter, meter_in, root_in, node_in, segment_in, page_in, word_in, count_in, words_in}
 
--- the numbers of states and phases; any other number is read as the last one
+-- the states 0 to 2 and the phases 0 to 5 by their numbers, and back
 abbrev pub state_by : ℕ → State
 state_by number = if number == 0 then Available else if number == 1 then Running else Waiting
 
@@ -49,10 +49,9 @@ abbrev pub words_of : (ℕ → ℕ → Key) → Option ℕ → ℕ → ℕ
 words_of rows None = λ n. 0
 words_of rows (Some node) = node_words (rows node)
 
--- A word of the descriptor node is the number of an open description and 1, or 0 where the descriptor is closed. Sixteen bits
--- of the number are read.
+-- A word of the descriptor node is the number of an open description and 1, or 0 where the descriptor is closed.
 abbrev pub description_by : ℕ → Option ℕ
-description_by word = if word == 0 then None else Some ((word - 1) % 2 ^ 16)
+description_by word = if word == 0 then None else Some (word - 1)
 
 abbrev pub description_word : Option ℕ → ℕ
 description_word None = 0

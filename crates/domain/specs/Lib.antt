@@ -6,3 +6,8 @@ pub mod Sets
 pub mod Buffers
 pub mod Life
 pub mod Ends
+pub mod Fields
+pub mod Lives
+pub mod Phases
+pub mod Checks
+pub mod Tests

@@ -16,8 +16,8 @@ use Rattle.kernel_forest.specs.Moves.{KeepsRest}
 use Rattle.unix_model.specs.Tables.{at, with_at}
 use Rattle.domain.specs.declared.types.State.TheVariants.{Running}
 use Rattle.domain.specs.Domains.{Domain, no_domain, domains, life_in, lives, roots}
-use Rattle.domain.specs.Keys.{is_number, key_of_space}
-use Rattle.domain.specs.Rules.{RowsGood, written}
+use Rattle.domain.specs.Keys.{key_of_space}
+use Rattle.domain.specs.Rules.{RowsGood, NumberFits, written}
 
 -- the number of three zeros, and a row with it from one place on, below another
 abbrev pub zero_number : Key
@@ -70,7 +70,7 @@ root_keys slot space regs descriptors = key_of_space (Some space) ∷ Start (rec
 pub record FillsRoot (old new : Kernel) (root slot space regs descriptors : ℕ) : Type 0 where
   pub life : Key
   pub runs : life_in life ≡ record { state = Running; count = 0 }
-  pub number : is_number life ≡ true
+  pub fits : NumberFits 6 life
   pub fills : Fills old new root (root_row life slot space regs descriptors) (root_keys slot space regs descriptors)
 
 -- A domain was made in a free slot. Three nodes were taken for it. The one key of its space, which was in hand or outside, is the

@@ -1,6 +1,8 @@
 //! Keys of the nodes of domains: how they are read and spelled.
 
-ghost use Rattle.std.specs.Prelude.{◌≡◌, ◌≢◌, ℕ, ◌<◌, ◌+◌, ◌*◌, true, None, Some, [], ◌∷◌, MatchOption};
+ghost use Rattle.std.specs.Prelude.{◌≡◌, ◌≢◌, ℕ, ◌<◌, ◌≤◌, ◌+◌, ◌*◌, true, None, Some, [], ◌∷◌, MatchOption};
+ghost use Rattle.kn_base.specs.declared.key.Key.TheVariants.{Number};
+ghost use Rattle.kn_base.specs.Keys.{counted_body};
 ghost use Rattle.kn_base.specs.Memory.{Memory};
 ghost use Rattle.kernel_tables.specs.Kernel.{Kernel, kernel_of, Sized, IsSized};
 ghost use Rattle.kernel_tables.specs.Rows.{domain_rows, key_table};
@@ -98,6 +100,7 @@ pub fn number_of(words: [u32; 3]) -> Key
 /// A number of one word and a count.
 #[tactic(auto, unfolding(crate::specs::Keys::word_in, crate::specs::Keys::count_in))]
 pub fn counted_of(word: u32, count: u64) -> Key
+    ensures spelled { result ≡ Number (counted_body word count) }
     ensures word { word_in result 0 ≡ word }
     ensures count { count_in result ≡ count }
     ensures number { is_number result ≡ true }
@@ -107,7 +110,7 @@ pub fn counted_of(word: u32, count: u64) -> Key
     Key::Number([a, b, c, d, e, f, g, h, i, j, k, l])
 }
 
-/// The state of a number. Any but 0 and 1 is read as Waiting.
+/// The state of a number below 3.
 pub fn state_by(number: u32) -> State
     ensures { result ≡ state_by number }
 {
@@ -130,7 +133,7 @@ pub fn state_number(state: State) -> u32
     }
 }
 
-/// The phase of a number. Any above 4 is read as Zombie.
+/// The phase of a number below 6.
 pub fn phase_by(number: u32) -> Phase
     ensures { result ≡ phase_by number }
 {
@@ -239,11 +242,12 @@ pub fn description_word(description: Option<u16>) -> u32
 
 /// The open description of the word of a descriptor.
 pub fn description_by(word: u32) -> Option<u16>
+    requires { word ≤ 2048 }
     ensures { result ≡ description_by word }
 {
     if word == 0 {
         None
     } else {
-        Some(((word - 1) % 65536) as u16)
+        Some((word - 1) as u16)
     }
 }

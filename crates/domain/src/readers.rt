@@ -1,6 +1,7 @@
 //! What is read of a domain, by its root.
 
 pub mod buffer;
+pub mod life;
 pub mod slots;
 pub mod words;
 
@@ -11,30 +12,12 @@ ghost use Rattle.kernel_tables.specs.Rows.{domain_rows};
 ghost use Rattle.space_bank.specs.Bank.{BankGood};
 ghost use Rattle.unix_model.specs.Tables.{at};
 ghost use Rattle.domain.specs.Rules.{RowsGood};
-ghost use Rattle.domain.specs.Domains.{domains, heads_in, lives};
+ghost use Rattle.domain.specs.Domains.{domains, heads_in};
 
-use super::keys::{count_in, phase_by, root_key, segment_in, state_by, word, words_in};
-use super::types::{Answer, Heads, Phase, State};
+use super::keys::{phase_by, root_key, segment_in, word, words_in};
+use super::types::{Answer, Heads, Phase};
 use kn_base::{NodeId, Store};
 use unix_model::Request;
-
-/// Whether the domain may be called, runs or waits.
-pub fn state_of<T: Store>(store: &T, root: NodeId) -> State
-    requires good { BankGood (kernel_of (T.memory store.now)) }
-    requires live { (at (domains (kernel_of (T.memory store.now))) root.0).live ≡ true }
-    ensures { result ≡ (at (lives (kernel_of (T.memory store.now))) root.0).state }
-{
-    state_by(word(root_key(store, root, 6), 0))
-}
-
-/// How many calls of the domain were answered, as a number below 2^64.
-pub fn count_of<T: Store>(store: &T, root: NodeId) -> u64
-    requires good { BankGood (kernel_of (T.memory store.now)) }
-    requires live { (at (domains (kernel_of (T.memory store.now))) root.0).live ≡ true }
-    ensures { result ≡ (at (lives (kernel_of (T.memory store.now))) root.0).count }
-{
-    count_in(root_key(store, root, 6))
-}
 
 /// How far the process is with its turn.
 pub fn phase_of<T: Store>(store: &T, root: NodeId) -> Phase

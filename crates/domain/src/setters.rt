@@ -1,23 +1,25 @@
 //! What is written in a domain, by its root.
 
 pub mod buffer;
+pub mod life;
 pub mod space;
 pub mod words;
 
-ghost use Rattle.std.specs.Prelude.{◌≡◌, ℕ, ◌<◌, ◌≤◌, ◌+◌, true, [], ◌∷◌, length};
+ghost use Rattle.std.specs.Prelude.{◌≡◌, ℕ, ◌<◌, ◌≤◌, ◌+◌, true, [], ◌∷◌, length, slice_index};
 ghost use Rattle.kn_base.specs.Memory.{Memory};
 ghost use Rattle.kernel_tables.specs.Kernel.{Kernel, kernel_of};
 ghost use Rattle.kernel_tables.specs.Rows.{domain_rows};
 ghost use Rattle.kernel_tables.specs.Blocks.{key_block, ChangesBlocks};
 ghost use Rattle.space_bank.specs.Bank.{BankGood};
+ghost use Rattle.unix_model.specs.Rules.{IsBreak};
 ghost use Rattle.unix_model.specs.Tables.{at, with_at};
 ghost use Rattle.domain.specs.Keys.{is_number, word_in, words_in};
 ghost use Rattle.domain.specs.Rules.{RowsGood, NumberFits, written};
 ghost use Rattle.domain.specs.Sets.{WritesNumbers};
 ghost use Rattle.domain.specs.Domains.{domains, lives, with_heads};
 
-use super::keys::{counted_of, number_of, root_key, state_number, with_ids, with_phase};
-use super::types::{Answer, Heads, Phase, State};
+use super::keys::{number_of, root_key, with_ids, with_phase};
+use super::types::{Answer, Heads, Phase};
 use kn_base::{Key, NodeId, Store};
 use space_bank::write_key;
 use unix_model::Request;
@@ -61,23 +63,6 @@ fn put_numbers<T: Store>(store: &mut T, root: NodeId, place: u8, first: Key, sec
     put_number(store, root, place + 1, second);
 }
 
-/// Sets whether the domain may be called, runs or waits, and how many of its calls were answered.
-pub fn set_state<T: Store>(store: &mut T, root: NodeId, state: State, count: u64)
-    requires good { BankGood (kernel_of (T.memory store.old)) }
-    requires rows { RowsGood (domain_rows (kernel_of (T.memory store.old))) }
-    requires live { (at (domains (kernel_of (T.memory store.old))) root.0).live ≡ true }
-    ensures set { lives (kernel_of (T.memory store.new)) ≡ with_at (lives (kernel_of (T.memory store.old))) root.0 (record { state = state; count = count }) }
-    ensures domains { domains (kernel_of (T.memory store.new)) ≡ domains (kernel_of (T.memory store.old)) }
-    ensures others { WritesNumbers (kernel_of (T.memory store.old)) (kernel_of (T.memory store.new)) }
-    ensures rows { RowsGood (domain_rows (kernel_of (T.memory store.new))) }
-    ensures good { BankGood (kernel_of (T.memory store.new)) }
-    ensures blocks { ChangesBlocks (T.blocks store.old) (T.blocks store.new) (key_block (kernel_of (T.memory store.old)).pages root.0 ∷ []) }
-    ensures keeps { T.keeps store.old store.new }
-{
-    let key = counted_of(state_number(state), count);
-    put_number(store, root, 6, key);
-}
-
 /// Sets how far the process is with its turn.
 pub fn set_phase<T: Store>(store: &mut T, root: NodeId, phase: Phase)
     requires good { BankGood (kernel_of (T.memory store.old)) }
@@ -100,6 +85,8 @@ pub fn set_mark_words<T: Store>(store: &mut T, root: NodeId, words: [u32; 3])
     requires good { BankGood (kernel_of (T.memory store.old)) }
     requires rows { RowsGood (domain_rows (kernel_of (T.memory store.old))) }
     requires live { (at (domains (kernel_of (T.memory store.old))) root.0).live ≡ true }
+    requires parked { slice_index words 0 < 2 }
+    requires unused { slice_index words 2 ≡ 0 }
     ensures set { let old = domains (kernel_of (T.memory store.old)) in domains (kernel_of (T.memory store.new)) ≡ with_at old root.0 (record (at old root.0) { marks = words }) }
     ensures lives { lives (kernel_of (T.memory store.new)) ≡ lives (kernel_of (T.memory store.old)) }
     ensures others { WritesNumbers (kernel_of (T.memory store.old)) (kernel_of (T.memory store.new)) }
@@ -112,11 +99,13 @@ pub fn set_mark_words<T: Store>(store: &mut T, root: NodeId, words: [u32; 3])
     put_number(store, root, 12, key);
 }
 
-/// Sets the process's own id and its parent's, its break, and the word that a wait for it answers.
+/// Sets the process's own id and its parent's, its break, and the word that a wait for it answers. The break starts at a page,
+/// and lies between its start and `0x7FFE_0000`.
 pub fn set_heads<T: Store>(store: &mut T, root: NodeId, heads: Heads)
     requires good { BankGood (kernel_of (T.memory store.old)) }
     requires rows { RowsGood (domain_rows (kernel_of (T.memory store.old))) }
     requires live { (at (domains (kernel_of (T.memory store.old))) root.0).live ≡ true }
+    requires in_bounds { IsBreak heads.break_start heads.break_end }
     ensures set { let old = domains (kernel_of (T.memory store.old)) in domains (kernel_of (T.memory store.new)) ≡ with_at old root.0 (with_heads (at old root.0) heads) }
     ensures lives { lives (kernel_of (T.memory store.new)) ≡ lives (kernel_of (T.memory store.old)) }
     ensures others { WritesNumbers (kernel_of (T.memory store.old)) (kernel_of (T.memory store.new)) }

@@ -1,1 +1,3 @@
 pub mod Ready
+pub mod Ranges
+pub mod ServiceLaws

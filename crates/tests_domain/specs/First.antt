@@ -1,8 +1,8 @@
 -- A machine in which a first domain can be made.
-use Rattle.std.specs.Prelude.{◌≡◌, ℕ, ◌+◌, ◌<◌, ◌≤◌, true, Some, List, [], ◌∷◌}
+use Rattle.std.specs.Prelude.{◌≡◌, ℕ, ◌+◌, ◌*◌, ◌<◌, ◌≤◌, true, Some, List, [], ◌∷◌, length}
 use Rattle.kn_base.specs.declared.key.Key.{Key}
 use Rattle.kn_base.specs.declared.key.Key.TheVariants.{Null}
-use Rattle.kernel_tables.specs.Kernel.{Kernel}
+use Rattle.kernel_tables.specs.Kernel.{Kernel, Sized}
 use Rattle.kernel_tables.specs.Rows.{domain_rows, fixed_rows}
 use Rattle.space_bank.specs.Shares.{Shares, nothing_outside}
 use Rattle.domain.specs.Keys.{key_of_space}
@@ -48,3 +48,8 @@ pub record IsBuffered (kernel : Kernel) (root : ℕ) : Type 0 where
   pub held : (at (domains kernel) root).buffer ≡ Some page
   pub is : IsBuffer kernel page
   pub shares : Shares kernel nothing_outside []
+
+-- the keys of nodes may be read, whatever they say
+pub record IsReadable (kernel : Kernel) : Type 0 where
+  pub sized : Sized kernel
+  pub all_keys : length kernel.keys ≡ 16 * kernel.nodes

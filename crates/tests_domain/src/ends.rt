@@ -11,9 +11,10 @@ ghost use Rattle.domain.specs.Rules.{RowsGood};
 ghost use Rattle.domain.specs.Domains.{domains};
 ghost use Rattle.tests_domain.specs.First.{IsDead};
 
+use super::checked::looks_right;
 use super::dying::{dead_domain, drop_dead};
 use super::first::SLOT;
-use domain::{Phase, State, descriptor, phase_of, regs_of, root_of, space_of, state_of};
+use domain::{Phase, State, descriptor, phase_of, regs_of, root_of, set_state, space_of, state_of};
 use kernel_tables::first_bank_page;
 use kn_base::NodeId;
 use obj_store::{NoMemory, RamStore};
@@ -58,6 +59,15 @@ fn a_zombie_reads_as_zeros_and_none(rt: HostRuntime) -> Result<(), Fail> {
     for number in 0..32 {
         assert_eq!(rt; descriptor(&store, root, number), None);
     }
+    Ok(())
+}
+
+#[test]
+fn a_zombie_is_right_where_it_may_be_called(rt: HostRuntime) -> Result<(), Fail> {
+    let Dead { mut store, root } = machine_with_zombie(rt.alloc())?;
+    assert_eq!(rt; looks_right(&store, SLOT), Some(false));
+    set_state(&mut store, root, State::Available, 0);
+    assert_eq!(rt; looks_right(&store, SLOT), Some(true));
     Ok(())
 }
 

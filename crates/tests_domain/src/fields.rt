@@ -12,9 +12,10 @@ ghost use Rattle.domain.specs.Domains.{domains};
 
 use super::first::{SLOT, first_domain};
 use super::setting::{other_space, set_all};
+use super::values::{some_heads, some_regs};
 use domain::{
-    Answer, Heads, Phase, State, answer_of, count_of, descriptor, heads_of, mark_words, phase_of,
-    regs_of, request_of, root_of, space_of, state_of,
+    Answer, Phase, State, answer_of, count_of, descriptor, heads_of, mark_words, phase_of, regs_of,
+    request_of, root_of, space_of, state_of,
 };
 use kernel_tables::first_bank_page;
 use kn_base::NodeId;
@@ -22,7 +23,7 @@ use obj_store::{NoMemory, RamStore};
 use std::alloc::Global;
 use std::process::Abort;
 use std::test::Fail;
-use unix_model::{Regs, Request};
+use unix_model::Request;
 
 // An empty machine's first domain, by its root.
 #[derive(Drop)]
@@ -79,15 +80,6 @@ fn its_words_are_zero(rt: HostRuntime) -> Result<(), Fail> {
     Ok(())
 }
 
-// Registers of which each is told from the others.
-fn some_regs() -> Regs {
-    let mut x = [0; 32];
-    for n in 0..32u32 {
-        x[n as usize] = 0x0101_0000 + n;
-    }
-    Regs { x, pc: 0x8000_0004 }
-}
-
 #[test]
 fn another_space_is_read_back(rt: HostRuntime) -> Result<(), Fail> {
     let Made { mut store, root } = machine_with_domain(rt.alloc())?;
@@ -101,13 +93,7 @@ fn another_space_is_read_back(rt: HostRuntime) -> Result<(), Fail> {
 #[test]
 fn each_field_is_read_back_beside_all_others(rt: HostRuntime) -> Result<(), Fail> {
     let Made { mut store, root } = machine_with_domain(rt.alloc())?;
-    let heads = Heads {
-        pid: 3,
-        parent: 1,
-        break_start: 0x2000,
-        break_end: 0x2abc,
-        word: 0xdead_beef,
-    };
+    let heads = some_heads(0xdead_beef);
     let request = Request {
         call: 25,
         args: [11, 12, 13, 14],

@@ -2,7 +2,12 @@
 //! calls one after the other are proved from what each promises.
 #![tactic(auto)]
 
+#[cfg(test)]
+mod alone;
 mod buffers;
+mod checked;
+#[cfg(test)]
+mod damage;
 mod dying;
 #[cfg(test)]
 mod ends;
@@ -11,9 +16,20 @@ mod fields;
 mod first;
 #[cfg(test)]
 mod held;
+mod services;
+#[cfg(test)]
+mod serving;
 mod setting;
+#[cfg(test)]
+mod values;
+#[cfg(test)]
+mod waiting;
 
 pub use buffers::{buffered_domain, first_bytes, give_buffer};
+pub use checked::{
+    key_there, keys_in_range, looks_damaged, looks_right, looks_with, node_number, put_low, raised,
+};
 pub use dying::{dead_domain, drop_dead};
 pub use first::{SLOT, first_domain};
-pub use setting::{make_request, other_space, set_all, ten_phases};
+pub use services::{DIRECTORIES, PIPES, running_service};
+pub use setting::{make_request, other_space, set_all, set_running, set_waiting, ten_phases};

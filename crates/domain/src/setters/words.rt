@@ -1,15 +1,16 @@
 //! Words that are written in the other two nodes of a domain.
 
-ghost use Rattle.std.specs.Prelude.{◌≡◌, ℕ, ◌<◌, ◌+◌, ◌*◌, true, [], ◌∷◌, slice_set};
+ghost use Rattle.std.specs.Prelude.{◌≡◌, ℕ, ◌<◌, ◌+◌, ◌*◌, ◌%◌, true, [], ◌∷◌, slice_set};
 ghost use Rattle.std.specs.Option.{ForSome};
 ghost use Rattle.kn_base.specs.Memory.{Memory};
 ghost use Rattle.kernel_tables.specs.Kernel.{Kernel, kernel_of};
 ghost use Rattle.kernel_tables.specs.Rows.{domain_rows};
 ghost use Rattle.kernel_tables.specs.Blocks.{key_block, ChangesBlocks};
 ghost use Rattle.space_bank.specs.Bank.{BankGood};
+ghost use Rattle.unix_model.specs.Execution.{register_word};
 ghost use Rattle.unix_model.specs.Tables.{at, with_at};
-ghost use Rattle.domain.specs.Keys.{is_number, node_in, words_in};
-ghost use Rattle.domain.specs.Rules.{RowsGood, IsNamed, written};
+ghost use Rattle.domain.specs.Keys.{is_number, node_in, word_in, words_in};
+ghost use Rattle.domain.specs.Rules.{RowsGood, IsNamed, NamedAt, WordsGood, written};
 ghost use Rattle.domain.specs.Sets.{WritesNumbers, HoldsWords, node_blocks};
 ghost use Rattle.domain.specs.Domains.{domains, lives, words_by};
 
@@ -26,9 +27,10 @@ fn put_words<T: Store>(store: &mut T, node: NodeId, place: u8, key: Key)
     requires named { IsNamed (domain_rows (kernel_of (T.memory store.old))) node.0 }
     requires place { place < 11 }
     requires number { is_number key ≡ true }
+    requires words { let rows = domain_rows (kernel_of (T.memory store.old)) in WordsGood rows node.0 (with_at (rows node.0) place key) }
     ensures put { domain_rows (kernel_of (T.memory store.new)) ≡ written (domain_rows (kernel_of (T.memory store.old))) node.0 place key }
     ensures rows { RowsGood (domain_rows (kernel_of (T.memory store.new))) }
-    ensures named { IsNamed (domain_rows (kernel_of (T.memory store.new))) node.0 }
+    ensures names { (a : ℕ) (i : ℕ) → node_in (domain_rows (kernel_of (T.memory store.new)) a i) ≡ node_in (domain_rows (kernel_of (T.memory store.old)) a i) }
     ensures others { WritesNumbers (kernel_of (T.memory store.old)) (kernel_of (T.memory store.new)) }
     ensures good { BankGood (kernel_of (T.memory store.new)) }
     ensures blocks { ChangesBlocks (T.blocks store.old) (T.blocks store.new) (key_block (kernel_of (T.memory store.old)).pages node.0 ∷ []) }
@@ -74,7 +76,9 @@ pub fn set_descriptor<T: Store>(store: &mut T, root: NodeId, number: u8, descrip
 #[tactic(auto, unfolding(crate::specs::Domains::words_by))]
 fn register(regs: &Regs, n: u8) -> u32
     requires { n < 33 }
-    ensures { result ≡ words_by regs.now n }
+    ensures word { result ≡ words_by regs.now n }
+    ensures zero { n ≡ 0 → result ≡ register_word regs.now 0 }
+    ensures pc { n ≡ 32 → result ≡ regs.now.pc }
 {
     if n < 32 { regs.x[n as usize] } else { regs.pc }
 }
@@ -84,6 +88,8 @@ fn three_registers(regs: &Regs, place: u8) -> Key
     requires place { place < 11 }
     ensures words { words_in result ≡ words_by regs.now (3 * place) ∷ words_by regs.now (3 * place + 1) ∷ words_by regs.now (3 * place + 2) ∷ [] }
     ensures number { is_number result ≡ true }
+    ensures zero { place ≡ 0 → word_in result 0 ≡ register_word regs.now 0 }
+    ensures pc { place ≡ 10 → word_in result 2 ≡ regs.now.pc }
 {
     number_of([
         register(regs, 3 * place),
@@ -92,11 +98,13 @@ fn three_registers(regs: &Regs, place: u8) -> Key
     ])
 }
 
-// Writes the registers in a node of words.
+// Writes the registers in a register node.
 fn put_registers<T: Store>(store: &mut T, node: NodeId, regs: &Regs)
     requires good { BankGood (kernel_of (T.memory store.old)) }
     requires rows { RowsGood (domain_rows (kernel_of (T.memory store.old))) }
-    requires named { IsNamed (domain_rows (kernel_of (T.memory store.old))) node.0 }
+    requires named { NamedAt (domain_rows (kernel_of (T.memory store.old))) 3 node.0 }
+    requires zero { register_word regs.now 0 ≡ 0 }
+    requires aligned { regs.now.pc % 4 ≡ 0 }
     ensures put { HoldsWords (domain_rows (kernel_of (T.memory store.old))) (domain_rows (kernel_of (T.memory store.new))) node.0 (words_by regs.now) 11 }
     ensures rows { RowsGood (domain_rows (kernel_of (T.memory store.new))) }
     ensures others { WritesNumbers (kernel_of (T.memory store.old)) (kernel_of (T.memory store.new)) }
@@ -110,12 +118,14 @@ fn put_registers<T: Store>(store: &mut T, node: NodeId, regs: &Regs)
     }
 }
 
-/// Sets the registers and pc of a process that is no zombie.
+/// Sets the registers and pc of a process that is no zombie. Register x0 is 0, and pc a multiple of 4.
 pub fn set_regs<T: Store>(store: &mut T, root: NodeId, regs: &Regs)
     requires good { BankGood (kernel_of (T.memory store.old)) }
     requires rows { RowsGood (domain_rows (kernel_of (T.memory store.old))) }
     requires live { (at (domains (kernel_of (T.memory store.old))) root.0).live ≡ true }
     requires whole { (at (domains (kernel_of (T.memory store.old))) root.0).whole ≡ true }
+    requires zero { register_word regs.now 0 ≡ 0 }
+    requires aligned { regs.now.pc % 4 ≡ 0 }
     ensures set { let old = domains (kernel_of (T.memory store.old)) in domains (kernel_of (T.memory store.new)) ≡ with_at old root.0 (record (at old root.0) { regs = words_by regs.now }) }
     ensures lives { lives (kernel_of (T.memory store.new)) ≡ lives (kernel_of (T.memory store.old)) }
     ensures others { WritesNumbers (kernel_of (T.memory store.old)) (kernel_of (T.memory store.new)) }

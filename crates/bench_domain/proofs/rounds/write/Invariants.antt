@@ -1,7 +1,8 @@
-use Rattle.std.proofs.Common.{◌≡◌, ℕ, true}
+use Rattle.std.proofs.Common.{◌≡◌, true}
 use Rattle.kernel_tables.specs.Kernel.{kernel_of}
 use Rattle.kernel_tables.specs.Rows.{domain_rows}
 use Rattle.space_bank.specs.Bank.{BankGood}
+use Rattle.unix_model.specs.Execution.{register_word}
 use Rattle.unix_model.specs.Tables.{at}
 use Rattle.domain.specs.Rules.{RowsGood}
 use Rattle.domain.specs.Domains.{domains}
@@ -13,4 +14,5 @@ invariant-loop-round g l = record {
   rows : RowsGood (domain_rows (kernel_of (g.T.Store.memory l.store)));
   live : (at (domains (kernel_of (g.T.Store.memory l.store))) l.root.0).live ≡ true;
   whole : (at (domains (kernel_of (g.T.Store.memory l.store))) l.root.0).whole ≡ true;
+  zero : register_word l.regs 0 ≡ 0;
 }

@@ -43,7 +43,7 @@ returns-clause-others g c =
     let high = c.requires.high in
     let meter = live_meter (domain_rows old) c.args.root.0 c.requires.live in
     writes_number old new c.args.root.0 c.args.place c.args.key (root_mine old c.args.root.0 (live_meter (domain_rows old) c.args.root.0 c.requires.live)) (omega arith)
-    ((c.requires.rows.roots c.args.root.0 (live_meter (domain_rows old) c.args.root.0 c.requires.live)).numbers c.args.place c.requires.low c.requires.high) c.requires.fits.number
+    ((c.requires.rows.roots c.args.root.0 (live_meter (domain_rows old) c.args.root.0 c.requires.live)).numbers c.args.place c.requires.low c.requires.high).number c.requires.fits.number
     (number_put old new c.args.root.0 c.args.place c.args.key c.requires.good
     (root_mine old c.args.root.0 (live_meter (domain_rows old) c.args.root.0 c.requires.live)) (omega arith) c.write_key.ensures.written c.write_key.ensures.shares)
 

@@ -1,17 +1,15 @@
-use Rattle.std.proofs.Common.{◌∙◌, ◌∷◌, [], ap, arith}
+use Rattle.std.proofs.Common.{◌∙◌, ◌≤◌, ◌∷◌, [], ap, sym, subst, arith}
 use Rattle.kernel_tables.specs.Kernel.{kernel_of}
 use Rattle.kernel_tables.specs.Rows.{domain_rows, fixed_rows}
 use Rattle.domain.specs.Domains.{domain_at, lives_by}
 use Rattle.domain.proofs.DomainLaws.{live_meter, lives_same, answer_set, third_word}
+use Rattle.domain.proofs.Fits.{answer_fits}
 use Rattle.domain.proofs.setters.set_answer.Goals as goal
 
 pub put_number-requires-clause-fits : goal.put_number-requires-clause-fits
-put_number-requires-clause-fits g c = record {
-  number = c.number_of-key.ensures.number;
-  call_fits = λ e. absurd (omega arith);
-  request_fits = λ e. absurd (omega arith);
-  answer_fits = λ e. let third = third_word c.number_of-key.result c.args.answer.value c.args.answer.at c.args.answer.length (c.number_of-key.ensures.words ∙ ap (λ n. c.args.answer.value ∷ c.args.answer.at ∷ n ∷ []) c.from.ensures) in let low = c.requires.length in omega arith;
-}
+put_number-requires-clause-fits g c =
+    let third = third_word c.number_of-key.result c.args.answer.value c.args.answer.at c.args.answer.length (c.number_of-key.ensures.words ∙ ap (λ n. c.args.answer.value ∷ c.args.answer.at ∷ n ∷ []) c.from.ensures) in
+    answer_fits c.number_of-key.result c.number_of-key.ensures.number (subst (λ n. n ≤ 4096) (sym third) c.requires.length)
 
 pub returns-clause-set : goal.returns-clause-set
 returns-clause-set g c =

@@ -1,17 +1,16 @@
-use Rattle.std.proofs.Common.{◌∙◌, ap, arith}
+use Rattle.std.proofs.Common.{◌∙◌, ◌<◌, ℕ, List, get_or, ap, sym, subst, arith}
 use Rattle.kernel_tables.specs.Kernel.{kernel_of}
 use Rattle.kernel_tables.specs.Rows.{domain_rows, fixed_rows}
 use Rattle.domain.specs.Domains.{domain_at, lives_by}
 use Rattle.domain.proofs.DomainLaws.{live_meter, lives_same, marks_set}
+use Rattle.domain.proofs.Fits.{marks_fit}
 use Rattle.domain.proofs.setters.set_mark_words.Goals as goal
 
 pub put_number-requires-clause-fits : goal.put_number-requires-clause-fits
-put_number-requires-clause-fits g c = record {
-  number = c.number_of-key.ensures.number;
-  call_fits = λ e. absurd (omega arith);
-  request_fits = λ e. absurd (omega arith);
-  answer_fits = λ e. absurd (omega arith);
-}
+put_number-requires-clause-fits g c =
+    marks_fit c.number_of-key.result c.number_of-key.ensures.number
+    (subst (λ n. n < 2) (sym (ap (λ (w : List ℕ). get_or w 0 0) c.number_of-key.ensures.words)) c.requires.parked)
+    (ap (λ (w : List ℕ). get_or w 2 0) c.number_of-key.ensures.words ∙ c.requires.unused)
 
 pub returns-clause-set : goal.returns-clause-set
 returns-clause-set g c =

@@ -4,15 +4,12 @@ use Rattle.kernel_tables.specs.Rows.{domain_rows, fixed_rows}
 use Rattle.domain.specs.Domains.{domain_at, lives_by, phase_by, phase_number}
 use Rattle.domain.specs.Keys.{word_in}
 use Rattle.domain.proofs.DomainLaws.{live_meter, lives_same, phase_set, first_word, second_word, third_word, phase_again}
+use Rattle.domain.proofs.Fits.{phase_fits}
 use Rattle.domain.proofs.setters.set_phase.Goals as goal
 
 pub put_number-requires-clause-fits : goal.put_number-requires-clause-fits
-put_number-requires-clause-fits g c = record {
-  number = c.with_phase-key.ensures.number;
-  call_fits = λ e. absurd (omega arith);
-  request_fits = λ e. absurd (omega arith);
-  answer_fits = λ e. absurd (omega arith);
-}
+put_number-requires-clause-fits g c =
+    phase_fits c.with_phase-key.result c.args.phase c.with_phase-key.ensures.number (third_word c.with_phase-key.result (word_in c.root_key.result 0) (word_in c.root_key.result 1) (phase_number c.args.phase) c.with_phase-key.ensures.words)
 
 pub returns-clause-set : goal.returns-clause-set
 returns-clause-set g c =

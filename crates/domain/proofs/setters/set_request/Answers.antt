@@ -1,4 +1,4 @@
-use Rattle.std.proofs.Common.{◌∙◌, [], ◌∷◌, ap, arith, get_or, ℕ, List}
+use Rattle.std.proofs.Common.{◌∙◌, ◌≤◌, [], ◌∷◌, ap, sym, subst, arith, get_or, ℕ, List}
 use Rattle.kernel_tables.specs.Kernel.{kernel_of}
 use Rattle.kernel_tables.specs.Rows.{domain_rows, fixed_rows}
 use Rattle.unix_model.specs.Tables.{at, with_at}
@@ -6,27 +6,16 @@ use Rattle.unix_model.specs.declared.calls.Request.{Request}
 use Rattle.domain.specs.Domains.{Domain, domain_at, domains, lives_by}
 use Rattle.domain.proofs.DomainLaws.{live_meter, third_word}
 use Rattle.domain.proofs.FieldLaws.{request_set, lives_two, four_words}
+use Rattle.domain.proofs.Fits.{call_fits, request_fits}
 use Rattle.domain.proofs.setters.set_request.Goals as goal
 
 pub put_numbers-requires-clause-first_fits : goal.put_numbers-requires-clause-first_fits
-put_numbers-requires-clause-first_fits g c = record {
-  number = c.call_number-head.ensures.number;
-  call_fits = λ e. c.call_number-head.ensures.fits;
-  request_fits = λ e. absurd (omega arith);
-  answer_fits = λ e. absurd (omega arith);
-}
+put_numbers-requires-clause-first_fits g c = call_fits c.call_number-head.result c.call_number-head.ensures.number c.call_number-head.ensures.fits
 
 pub put_numbers-requires-clause-second_fits : goal.put_numbers-requires-clause-second_fits
-put_numbers-requires-clause-second_fits g c = record {
-  number = c.number_of-rest.ensures.number;
-  call_fits = λ e. absurd (omega arith);
-  request_fits = λ e.
-      let is = third_word c.number_of-rest.result (get_or c.arguments.result 2 0) (get_or c.arguments.result 3 0) c.from.result c.number_of-rest.ensures.words in
-      let same = c.from.ensures in
-      let low = c.requires.length in
-      omega arith;
-  answer_fits = λ e. absurd (omega arith);
-}
+put_numbers-requires-clause-second_fits g c =
+    let is = third_word c.number_of-rest.result (get_or c.arguments.result 2 0) (get_or c.arguments.result 3 0) c.from.result c.number_of-rest.ensures.words in
+    request_fits c.number_of-rest.result c.number_of-rest.ensures.number (subst (λ n. n ≤ 4096) (sym (is ∙ c.from.ensures)) c.requires.length)
 
 pub returns-clause-set : goal.returns-clause-set
 returns-clause-set g c =

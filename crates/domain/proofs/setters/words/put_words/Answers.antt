@@ -1,8 +1,9 @@
-use Rattle.std.proofs.Common.{sym, subst, arith}
+use Rattle.std.proofs.Common.{◌∙◌, ap, sym, subst, arith}
 use Rattle.kernel_tables.specs.Kernel.{kernel_of}
 use Rattle.kernel_tables.specs.Rows.{domain_rows, of_domain}
-use Rattle.domain.specs.Rules.{RowsGood, IsNamed}
-use Rattle.domain.proofs.WordLaws.{words_good, still_named}
+use Rattle.domain.specs.Keys.{node_in}
+use Rattle.domain.specs.Rules.{RowsGood}
+use Rattle.domain.proofs.WordLaws.{words_good, names_kept}
 use Rattle.domain.proofs.Writing.{words_mine, writes_number}
 use Rattle.domain.proofs.setters.words.put_words.Goals as goal
 
@@ -16,12 +17,12 @@ returns-clause-put g c =
 pub returns-clause-rows : goal.returns-clause-rows
 returns-clause-rows g c =
     let old = kernel_of (g.T.Store.memory c.args.store.now) in
-    subst RowsGood (sym (returns-clause-put g c)) (words_good (domain_rows old) c.args.node.0 c.args.place c.args.key c.requires.rows c.requires.named c.requires.place c.requires.number)
+    subst RowsGood (sym (returns-clause-put g c)) (words_good (domain_rows old) c.args.node.0 c.args.place c.args.key c.requires.rows c.requires.named c.requires.place c.requires.number c.requires.words)
 
-pub returns-clause-named : goal.returns-clause-named
-returns-clause-named g c =
+pub returns-clause-names : goal.returns-clause-names
+returns-clause-names g c a i =
     let old = kernel_of (g.T.Store.memory c.args.store.now) in
-    subst (λ rows. IsNamed rows c.args.node.0) (sym (returns-clause-put g c)) (still_named (domain_rows old) c.args.node.0 c.args.place c.args.key c.requires.rows c.requires.named c.requires.place c.requires.number)
+    ap (λ rows. node_in (rows a i)) (returns-clause-put g c) ∙ names_kept (domain_rows old) c.args.node.0 c.args.place c.args.key c.requires.rows c.requires.named c.requires.place c.requires.number a i
 
 pub returns-clause-others : goal.returns-clause-others
 returns-clause-others g c =

@@ -4,7 +4,8 @@ use Rattle.kernel_tables.specs.Rows.{domain_rows, fixed_rows}
 use Rattle.kernel_tables.specs.Blocks.{ChangesBlocks}
 use Rattle.domain.specs.Domains.{domain_at, lives_by}
 use Rattle.domain.specs.Sets.{node_blocks}
-use Rattle.domain.proofs.WordLaws.{descriptor_set, description_again, put_lives}
+use Rattle.domain.proofs.WordLaws.{descriptor_set, description_again, word_few, put_lives}
+use Rattle.domain.proofs.WordRows.{descriptor_fits}
 use Rattle.domain.proofs.setters.words.set_descriptor.Goals as goal
 
 pub words_at-words-requires-clause-named : goal.words_at-words-requires-clause-named
@@ -12,6 +13,12 @@ words_at-words-requires-clause-named g c = record { by = c.args.root.0; place = 
 
 pub put_words-requires-clause-named : goal.put_words-requires-clause-named
 put_words-requires-clause-named g c = record { by = c.args.root.0; place = 4; named = c.node_of_words-node.ensures }
+
+pub put_words-requires-clause-words : goal.put_words-requires-clause-words
+put_words-requires-clause-words g c =
+    descriptor_fits (domain_rows (kernel_of (g.T.Store.memory c.args.store.now))) c.node_of_words-node.result.0 c.args.number c.description_word.result c.with_word-key.result c.requires.rows
+    (c.args.root.0, c.node_of_words-node.ensures) c.requires.number (word_few c.args.description c.description_word.result c.description_word.ensures c.requires.description)
+    (c.with_word-key.ensures.words ∙ ap (λ words. set words (c.args.number % 3) c.description_word.result) c.words_at-words.ensures)
 
 pub returns-clause-set : goal.returns-clause-set
 returns-clause-set g c =

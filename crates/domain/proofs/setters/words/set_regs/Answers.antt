@@ -8,7 +8,7 @@ use Rattle.domain.proofs.WordLaws.{regs_set, regs_lives, no_register}
 use Rattle.domain.proofs.setters.words.set_regs.Goals as goal
 
 pub put_registers-requires-clause-named : goal.put_registers-requires-clause-named
-put_registers-requires-clause-named g c = record { by = c.args.root.0; place = 3; named = c.node_of_words-node.ensures }
+put_registers-requires-clause-named g c = (c.args.root.0, c.node_of_words-node.ensures)
 
 pub returns-clause-set : goal.returns-clause-set
 returns-clause-set g c =

@@ -1,0 +1,48 @@
+//! The state and the call count of services, over a store in memory.
+
+ghost use Rattle.std.specs.Prelude.{◌≡◌, ℕ, IfOk};
+ghost use Rattle.kn_base.specs.Memory.{Memory};
+ghost use Rattle.kernel_tables.specs.Kernel.{Kernel, kernel_of, first_page, node_count};
+ghost use Rattle.kernel_tables.specs.Rows.{domain_rows};
+ghost use Rattle.obj_store.specs.Store.{ram_memory};
+ghost use Rattle.space_bank.specs.Bank.{BankGood};
+ghost use Rattle.domain.specs.Rules.{RowsGood};
+ghost use Rattle.domain.specs.Lives.{HasLife};
+
+use super::services::{DIRECTORIES, PIPES, running_service};
+use domain::{State, count_of, set_state, state_of};
+use kernel_tables::first_bank_page;
+use obj_store::{NoMemory, RamStore};
+use std::alloc::Global;
+use std::test::Fail;
+
+// A machine in which the service of directories runs.
+#[tactic(auto, unfolding(kernel_tables::specs::Kernel::first_page))]
+fn machine_with_service(alloc: Global) -> Result<RamStore, Fail>
+    ensures directories { IfOk result (λ s. HasLife (kernel_of (ram_memory s)) 3) }
+    ensures pipes { IfOk result (λ s. HasLife (kernel_of (ram_memory s)) 4) }
+    ensures good { IfOk result (λ s. BankGood (kernel_of (ram_memory s))) }
+    ensures rows { IfOk result (λ s. RowsGood (domain_rows (kernel_of (ram_memory s)))) }
+{
+    let all_pages = first_bank_page(64) + 64;
+    match RamStore::new(alloc, all_pages, 1552) {
+        Ok(mut store) => {
+            running_service(&mut store);
+            Ok(store)
+        }
+        Err(NoMemory) => Err(Fail::from(NoMemory)),
+    }
+}
+
+#[test]
+fn the_state_of_a_service_is_set_alone(rt: HostRuntime) -> Result<(), Fail> {
+    let mut store = machine_with_service(rt.alloc())?;
+    assert_eq!(rt; state_of(&store, DIRECTORIES), State::Running);
+    assert_eq!(rt; count_of(&store, DIRECTORIES), u64::MAX);
+    assert_eq!(rt; state_of(&store, PIPES), State::Available);
+    assert_eq!(rt; count_of(&store, PIPES), 0);
+    set_state(&mut store, DIRECTORIES, State::Available, 0);
+    assert_eq!(rt; state_of(&store, DIRECTORIES), State::Available);
+    assert_eq!(rt; count_of(&store, DIRECTORIES), 0);
+    Ok(())
+}
