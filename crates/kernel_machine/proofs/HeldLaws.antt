@@ -9,7 +9,7 @@ use Rattle.kernel_machine.specs.Trees.{HasTree}
 use Rattle.kernel_machine.specs.Bounds as law
 
 -- a field that stays is the same everywhere
-stays : {X : Type 0} (domains : ℕ → Domain) (root : ℕ) (domain : Domain) (field : Domain → X) → field domain ≡ field (at domains root) → (other : ℕ) → field (at (with_at domains root domain) other) ≡ field (at domains other)
+pub stays : {X : Type 0} (domains : ℕ → Domain) (root : ℕ) (domain : Domain) (field : Domain → X) → field domain ≡ field (at domains root) → (other : ℕ) → field (at (with_at domains root domain) other) ≡ field (at domains other)
 stays domains root domain field same other = ⊎_elim
     (λ (e : other ≡ root). ap (λ n. field (at (with_at domains root domain) n)) e ∙ ap field (at-with_at domains root domain) ∙ same ∙ ap (λ n. field (at domains n)) (sym e))
     (λ (apart : other ≢ root). ap field (at-with_at-other domains root other domain apart))

@@ -17,3 +17,6 @@ pub mod UntakenLaws
 pub mod PagesLeft
 pub mod SharedPages
 pub mod HolesLeft
+pub mod KeepLaws
+pub mod StandingLaws
+pub mod SpacesStand

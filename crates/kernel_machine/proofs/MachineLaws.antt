@@ -12,14 +12,14 @@ use Rattle.kernel_forest.proofs.RowLaws.{domains_apart, fixed_apart}
 use Rattle.std.proofs.lemmas.List.{get_or-set_same, get_or-set_other}
 use Rattle.forest.specs.Forest.{Forest}
 use Rattle.unix_model.specs.Tables.{with_at}
-use Rattle.domain.specs.Domains.{domain_at, domains, lives, lives_by}
-use Rattle.kernel_machine.specs.Machine.{KernelMachine, machine_of, roots_of, room_of, inodes_of, descriptions_of, held}
+use Rattle.domain.specs.Domains.{domain_at, domains, lives, lives_by, roots_by}
+use Rattle.kernel_machine.specs.Machine.{KernelMachine, machine_of, room_of, inodes_of, descriptions_of, held}
 use Rattle.kernel_machine.specs.Laws as law
 use Rattle.kernel_machine.proofs.ViewLaws.{changed_at}
 
 -- keys that leave the fixed rows and the forest
 with_fixed : Kernel → (ℕ → ℕ → Key) → Forest → KernelMachine
-with_fixed kernel fixed forest = record (machine_of kernel) { roots = roots_of fixed; room = room_of fixed; forest = forest }
+with_fixed kernel fixed forest = record (machine_of kernel) { roots = roots_by fixed; room = room_of fixed; forest = forest }
 
 keys-written : (old : Kernel) (keys : List (Option Key)) → forest_of (record old { keys = keys }) ≡ forest_of old → fixed_rows (record old { keys = keys }) ≡ fixed_rows old
     → machine_of (record old { keys = keys }) ≡ record (machine_of old) { lives = lives (record old { keys = keys }); domains = domains (record old { keys = keys }) }
@@ -76,7 +76,7 @@ description_written old new number row inside is = ap machine_of is ∙ ap (desc
 by_rows : Kernel → (fixed domain : ℕ → ℕ → Key) → (inodes : List (Row Inode)) → (descriptions : List (Row Description)) → KernelMachine
 by_rows kernel fixed domain inodes descriptions =
     record (machine_of kernel) {
-      roots = roots_of fixed;
+      roots = roots_by fixed;
       room = room_of fixed;
       lives = lives_by domain fixed;
       domains = domain_at domain;

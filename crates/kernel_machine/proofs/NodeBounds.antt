@@ -9,8 +9,8 @@ use Rattle.kernel_forest.specs.Trees.{forest_of}
 use Rattle.unix_model.specs.Files.{inode_pages}
 use Rattle.unix_model.specs.Room.{promised, process_pages}
 use Rattle.unix_model.specs.Tables.{at, count_below, sum_below}
-use Rattle.domain.specs.Domains.{domains}
-use Rattle.kernel_machine.specs.Machine.{machine_of, roots_of, inodes_of}
+use Rattle.domain.specs.Domains.{domains, roots_by}
+use Rattle.kernel_machine.specs.Machine.{machine_of, inodes_of}
 use Rattle.kernel_machine.specs.View.{view, processes_in, inodes_in}
 use Rattle.kernel_machine.specs.Bounds.{Accounted}
 use Rattle.kernel_machine.specs.Bounds as law
@@ -30,10 +30,10 @@ module _ (kernel : Kernel) (good : Accounted kernel) where
   slots-few : count_below (slots-have kernel good) kernel.nodes ≤ 4 * sum_below (λ slot. process_pages (at (view (machine_of kernel)).processes slot)) 64 + 3 * 64
   unfolding slots-have view processes_in at machine_of
   slots-few =
-      let all = count-any (λ slot n. slot-has (forest_of kernel).keys (domain_rows kernel) (domains kernel) (at (roots_of (fixed_rows kernel)) slot) n) kernel.nodes 64 in
-      let each = sum-four-and-three (λ slot. count_below (slot-has (forest_of kernel).keys (domain_rows kernel) (domains kernel) (at (roots_of (fixed_rows kernel)) slot)) kernel.nodes)
+      let all = count-any (λ slot n. slot-has (forest_of kernel).keys (domain_rows kernel) (domains kernel) (at (roots_by (fixed_rows kernel)) slot) n) kernel.nodes 64 in
+      let each = sum-four-and-three (λ slot. count_below (slot-has (forest_of kernel).keys (domain_rows kernel) (domains kernel) (at (roots_by (fixed_rows kernel)) slot)) kernel.nodes)
       (λ slot. process_pages (at (view (machine_of kernel)).processes slot)) 64
-      (λ slot below. slot-few (machine_of kernel) (domain_rows kernel) kernel.nodes (at (roots_of (fixed_rows kernel)) slot) (λ root there. good.machine.zombies slot root there)) in
+      (λ slot below. slot-few (machine_of kernel) (domain_rows kernel) kernel.nodes (at (roots_by (fixed_rows kernel)) slot) (λ root there. good.machine.zombies slot root there)) in
       omega arith
 
   inodes-few : count_below (inodes-have kernel good) kernel.nodes ≤ 4 * sum_below (λ number. inode_pages (at (view (machine_of kernel)).files.inodes number)) 1024 + 1024

@@ -19,9 +19,9 @@ use Rattle.forest.specs.Walks.{Mapping, map_of, IsWay}
 use Rattle.forest.proofs.ReachLaws.{everything_is_reached, way_owner}
 use Rattle.kernel_forest.specs.Trees.{forest_of, outside_trees, owner_of, node_tree}
 use Rattle.file_tables.specs.Roots.{named_by}
-use Rattle.domain.specs.Domains.{domains, domain_at, full_domain}
+use Rattle.domain.specs.Domains.{domains, domain_at, full_domain, roots_by}
 use Rattle.domain.specs.Keys.{is_meter, node_in}
-use Rattle.kernel_machine.specs.Machine.{machine_of, roots_of, inodes_of}
+use Rattle.kernel_machine.specs.Machine.{machine_of, inodes_of}
 use Rattle.kernel_machine.specs.Held.{IsNodeOf}
 use Rattle.kernel_machine.specs.Trees.{HasTree}
 use Rattle.kernel_machine.specs.Bounds.{Accounted}
@@ -72,7 +72,7 @@ module _ (kernel : Kernel) (good : Accounted kernel) where
   own-rows = domain_rows kernel
 
   unfoldable pub slots-have : ℕ → Bool
-  slots-have node = any_below (λ slot. slot-has (forest_of kernel).keys (domain_rows kernel) (domains kernel) (at (roots_of (fixed_rows kernel)) slot) node) 64
+  slots-have node = any_below (λ slot. slot-has (forest_of kernel).keys (domain_rows kernel) (domains kernel) (at (roots_by (fixed_rows kernel)) slot) node) 64
 
   unfoldable pub inodes-have : ℕ → Bool
   inodes-have node = any_below (λ number. inode-has (forest_of kernel).keys (at (inodes_of kernel) number) node) 1024
@@ -81,8 +81,8 @@ module _ (kernel : Kernel) (good : Accounted kernel) where
   unfolding slots-have machine_of
   domain-in-slot root node live has =
       let slot = (at (domains kernel) root).slot in
-      let there : at (roots_of (fixed_rows kernel)) slot ≡ Some root = good.machine.in_slots root live in
-      any-at (λ k. slot-has keys own-rows (domains kernel) (at (roots_of (fixed_rows kernel)) k) node) 64 slot (slot-below (fixed_rows kernel) slot root there)
+      let there : at (roots_by (fixed_rows kernel)) slot ≡ Some root = good.machine.in_slots root live in
+      any-at (λ k. slot-has keys own-rows (domains kernel) (at (roots_by (fixed_rows kernel)) k) node) 64 slot (slot-below (fixed_rows kernel) slot root there)
       (ap (λ own. slot-has keys own-rows (domains kernel) own node) there ∙ has)
 
   inode-there : (number : ℕ) (row : Inode) (node : ℕ) → at (inodes_of kernel) number ≡ Some row → kind-has keys row row.kind node ≡ true → inodes-have node ≡ true

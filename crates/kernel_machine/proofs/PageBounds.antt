@@ -18,8 +18,8 @@ use Rattle.unix_model.specs.Files.{inode_pages}
 use Rattle.unix_model.specs.Room.{promised, process_pages}
 use Rattle.unix_model.specs.Tables.{at, count_below, sum_below}
 use Rattle.unix_model.proofs.CountLaws.{one_if}
-use Rattle.domain.specs.Domains.{domains}
-use Rattle.kernel_machine.specs.Machine.{machine_of, roots_of, inodes_of, held}
+use Rattle.domain.specs.Domains.{domains, roots_by}
+use Rattle.kernel_machine.specs.Machine.{machine_of, inodes_of, held}
 use Rattle.kernel_machine.specs.View.{view, processes_in, inodes_in}
 use Rattle.kernel_machine.specs.Bounds.{Accounted}
 use Rattle.kernel_machine.specs.Bounds as law
@@ -74,10 +74,10 @@ module _ (kernel : Kernel) (good : Accounted kernel) where
   pub slots-few : count_below (λ n. slots-have kernel good (first + n)) kernel.size ≤ sum_below (λ slot. process_pages (at (view (machine_of kernel)).processes slot)) 64
   unfolding slots-have view processes_in at machine_of
   slots-few =
-      let all = count-any (λ slot n. slot-has (forest_of kernel).keys (domains kernel) (at (roots_of (fixed_rows kernel)) slot) (first + n)) kernel.size 64 in
-      let each = sum-less (λ slot. count_below (λ n. slot-has (forest_of kernel).keys (domains kernel) (at (roots_of (fixed_rows kernel)) slot) (first + n)) kernel.size)
+      let all = count-any (λ slot n. slot-has (forest_of kernel).keys (domains kernel) (at (roots_by (fixed_rows kernel)) slot) (first + n)) kernel.size 64 in
+      let each = sum-less (λ slot. count_below (λ n. slot-has (forest_of kernel).keys (domains kernel) (at (roots_by (fixed_rows kernel)) slot) (first + n)) kernel.size)
       (λ slot. process_pages (at (view (machine_of kernel)).processes slot)) 64
-      (λ slot below. slot-few (machine_of kernel) first kernel.size slot (at (roots_of (fixed_rows kernel)) slot) (λ root there. good.machine.zombies slot root there)) in
+      (λ slot below. slot-few (machine_of kernel) first kernel.size slot (at (roots_by (fixed_rows kernel)) slot) (λ root there. good.machine.zombies slot root there)) in
       omega arith
 
   inodes-few : count_below (λ n. inodes-have kernel good (first + n)) kernel.size ≤ sum_below (λ number. inode_pages (at (view (machine_of kernel)).files.inodes number)) 1024

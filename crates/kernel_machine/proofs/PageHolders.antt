@@ -28,8 +28,8 @@ use Rattle.kernel_forest.specs.Trees.{forest_of, outside_trees, owner_of, page_t
 use Rattle.kernel_forest.proofs.Bridge.{page_inside}
 use Rattle.file_tables.specs.Roots.{named_by}
 use Rattle.user_copy.specs.SpaceMemory.{memory_by, page_of}
-use Rattle.domain.specs.Domains.{domains}
-use Rattle.kernel_machine.specs.Machine.{machine_of, roots_of, inodes_of, page_owner_of}
+use Rattle.domain.specs.Domains.{domains, roots_by}
+use Rattle.kernel_machine.specs.Machine.{machine_of, inodes_of, page_owner_of}
 use Rattle.kernel_machine.specs.Contents.{mapped_bytes}
 use Rattle.kernel_machine.specs.Trees.{HasTree}
 use Rattle.kernel_machine.specs.View.{memory_in, file_memory}
@@ -69,8 +69,8 @@ unfolding maps
 mapped-has keys space limit number page below e =
     any-at (λ k. is_label page (shared_page keys (space, k))) limit number below (ap (is_label page) e ∙ eq-eqb page page refl)
 
-pub slot-below : (fixed : ℕ → ℕ → Key) (slot root : ℕ) → at (roots_of fixed) slot ≡ Some root → slot < 64
-unfolding roots_of at
+pub slot-below : (fixed : ℕ → ℕ → Key) (slot root : ℕ) → at (roots_by fixed) slot ≡ Some root → slot < 64
+unfolding roots_by at
 slot-below fixed slot root e = ⊎_elim
     (λ (t : nat_lt slot slot_count ≡ true). ltb-true slot slot_count t)
     (λ (t : nat_lt slot slot_count ≡ false). absurd (let no : None ≡ Some root = rw t at e in cc))
@@ -95,7 +95,7 @@ module _ (kernel : Kernel) (good : Accounted kernel) where
   keys = (forest_of kernel).keys
 
   unfoldable pub slots-have : ℕ → Bool
-  slots-have page = any_below (λ slot. slot-has keys (domains kernel) (at (roots_of (fixed_rows kernel)) slot) page) 64
+  slots-have page = any_below (λ slot. slot-has keys (domains kernel) (at (roots_by (fixed_rows kernel)) slot) page) 64
 
   unfoldable pub inodes-have : ℕ → Bool
   inodes-have page = any_below (λ number. inode-has keys (at (inodes_of kernel) number) page) 1024
@@ -104,8 +104,8 @@ module _ (kernel : Kernel) (good : Accounted kernel) where
   unfolding slots-have slot-has machine_of
   domain-in-slot root page live has =
       let slot = (at (domains kernel) root).slot in
-      let there : at (roots_of (fixed_rows kernel)) slot ≡ Some root = good.machine.in_slots root live in
-      any-at (λ k. slot-has keys (domains kernel) (at (roots_of (fixed_rows kernel)) k) page) 64 slot (slot-below (fixed_rows kernel) slot root there)
+      let there : at (roots_by (fixed_rows kernel)) slot ≡ Some root = good.machine.in_slots root live in
+      any-at (λ k. slot-has keys (domains kernel) (at (roots_by (fixed_rows kernel)) k) page) 64 slot (slot-below (fixed_rows kernel) slot root there)
       (ap (λ own. slot-has keys (domains kernel) own page) there ∙ has)
 
   pub inode-below : (number : ℕ) (row : Inode) → at (inodes_of kernel) number ≡ Some row → number < 1024

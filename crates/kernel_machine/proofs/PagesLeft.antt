@@ -16,8 +16,8 @@ use Rattle.unix_model.proofs.CountLaws.{one_if}
 use Rattle.user_copy.specs.SpaceMemory.{memory_by, page_of}
 use Rattle.domain.specs.declared.types.Phase.{Phase}
 use Rattle.domain.specs.declared.types.Phase.TheVariants.{Run, Asked, Sent, Done, Exiting, Zombie}
-use Rattle.domain.specs.Domains.{Domain, domains}
-use Rattle.kernel_machine.specs.Machine.{KernelMachine, machine_of, roots_of}
+use Rattle.domain.specs.Domains.{Domain, domains, roots_by}
+use Rattle.kernel_machine.specs.Machine.{KernelMachine, machine_of}
 use Rattle.kernel_machine.specs.View.{view, memory_in, phase_in, process_in, processes_in}
 use Rattle.kernel_machine.specs.Bounds as law
 use Rattle.kernel_machine.specs.Bounds.{Accounted}
@@ -71,19 +71,19 @@ has-blank machine first size space page found domain own is blank =
     let same : count_below (λ n. maps machine.forest.keys domain.space (2 ^ 19) (first + n)) size + 1 ≤ mapped_pages (memory_in machine domain.space) = rw own few in
     omega (arith, count-label first domain.buffer size)
 
-module _ (kernel : Kernel) (good : Accounted kernel) (slot root : ℕ) (there : at (roots_of (fixed_rows kernel)) slot ≡ Some root) (goes : (at (domains kernel) root).phase ≢ Zombie) (less : count_below (λ n. domain-has (forest_of kernel).keys (at (domains kernel) root) (first_page kernel.size + n)) kernel.size ≤ mapped_pages (process_in (machine_of kernel) (at (domains kernel) root)).memory) where
-  slot-left : count_below (λ n. slot-has (forest_of kernel).keys (domains kernel) (at (roots_of (fixed_rows kernel)) slot) (first_page kernel.size + n)) kernel.size + 1
-      ≤ process_pages (option_map (λ root. process_in (machine_of kernel) (at (domains kernel) root)) (at (roots_of (fixed_rows kernel)) slot))
+module _ (kernel : Kernel) (good : Accounted kernel) (slot root : ℕ) (there : at (roots_by (fixed_rows kernel)) slot ≡ Some root) (goes : (at (domains kernel) root).phase ≢ Zombie) (less : count_below (λ n. domain-has (forest_of kernel).keys (at (domains kernel) root) (first_page kernel.size + n)) kernel.size ≤ mapped_pages (process_in (machine_of kernel) (at (domains kernel) root)).memory) where
+  slot-left : count_below (λ n. slot-has (forest_of kernel).keys (domains kernel) (at (roots_by (fixed_rows kernel)) slot) (first_page kernel.size + n)) kernel.size + 1
+      ≤ process_pages (option_map (λ root. process_in (machine_of kernel) (at (domains kernel) root)) (at (roots_by (fixed_rows kernel)) slot))
   unfolding slot-has process_in machine_of
   slot-left = rw there (live-left (machine_of kernel) _ (machine_of kernel).page_bytes (at (domains kernel) root) (at (domains kernel) root).phase goes less)
 
   slots-left : count_below (λ n. slots-have kernel good (first_page kernel.size + n)) kernel.size + 1 ≤ sum_below (λ slot. process_pages (at (view (machine_of kernel)).processes slot)) 64
   unfolding slots-have view processes_in at machine_of
   slots-left =
-      let all = count-any (λ slot n. slot-has (forest_of kernel).keys (domains kernel) (at (roots_of (fixed_rows kernel)) slot) (first_page kernel.size + n)) kernel.size 64 in
-      let each = sum-below-more (λ slot. count_below (λ n. slot-has (forest_of kernel).keys (domains kernel) (at (roots_of (fixed_rows kernel)) slot) (first_page kernel.size + n)) kernel.size)
+      let all = count-any (λ slot n. slot-has (forest_of kernel).keys (domains kernel) (at (roots_by (fixed_rows kernel)) slot) (first_page kernel.size + n)) kernel.size 64 in
+      let each = sum-below-more (λ slot. count_below (λ n. slot-has (forest_of kernel).keys (domains kernel) (at (roots_by (fixed_rows kernel)) slot) (first_page kernel.size + n)) kernel.size)
       (λ slot. process_pages (at (view (machine_of kernel)).processes slot)) 64 slot (slot-below (fixed_rows kernel) slot root there) slot-left
-      (λ slot below. slot-few (machine_of kernel) (first_page kernel.size) kernel.size slot (at (roots_of (fixed_rows kernel)) slot) (λ root there. good.machine.zombies slot root there)) in
+      (λ slot below. slot-few (machine_of kernel) (first_page kernel.size) kernel.size slot (at (roots_by (fixed_rows kernel)) slot) (λ root there. good.machine.zombies slot root there)) in
       omega arith
 
   left : kernel.machine.pages_taken < promised (view (machine_of kernel))

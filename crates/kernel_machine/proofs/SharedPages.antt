@@ -20,8 +20,8 @@ use Rattle.unix_model.specs.Tables.{at, any_below, count_below, sum_below}
 use Rattle.unix_model.proofs.CountLaws.{one_if}
 use Rattle.user_copy.specs.SpaceMemory.{memory_by, page_of}
 use Rattle.domain.specs.declared.types.Phase.TheVariants.{Zombie}
-use Rattle.domain.specs.Domains.{domains}
-use Rattle.kernel_machine.specs.Machine.{KernelMachine, machine_of, roots_of}
+use Rattle.domain.specs.Domains.{domains, roots_by}
+use Rattle.kernel_machine.specs.Machine.{KernelMachine, machine_of}
 use Rattle.kernel_machine.specs.View.{view, memory_in, process_in, processes_in}
 use Rattle.kernel_machine.specs.Bounds as law
 use Rattle.kernel_machine.specs.Bounds.{Accounted}
@@ -78,7 +78,7 @@ but-same keys space skip other page is apart =
     (λ (e : (number == skip) ≡ false). rw e refl)
     (cases_Bool (number == skip))))
 
-module _ (kernel : Kernel) (good : Accounted kernel) (slot root space page : ℕ) (found : Mapping) (there : at (roots_of (fixed_rows kernel)) slot ≡ Some root) (own : (at (domains kernel) root).space ≡ Some space) (is : map_of (forest_of kernel).keys space page ≡ Some found) (real : found.page ≢ 0) where
+module _ (kernel : Kernel) (good : Accounted kernel) (slot root space page : ℕ) (found : Mapping) (there : at (roots_by (fixed_rows kernel)) slot ≡ Some root) (own : (at (domains kernel) root).space ≡ Some space) (is : map_of (forest_of kernel).keys space page ≡ Some found) (real : found.page ≢ 0) where
   abbrev keys : ℕ → Key
   keys = (forest_of kernel).keys
 
@@ -95,7 +95,7 @@ module _ (kernel : Kernel) (good : Accounted kernel) (slot root space page : ℕ
   here-but p = maps-but (forest_of kernel).keys space page p || is_label p (at (domains kernel) root).buffer
 
   unfoldable pub slot-but : ℕ → ℕ → Bool
-  slot-but k p = if k == slot then here-but p else slot-has (forest_of kernel).keys (domains kernel) (at (roots_of (fixed_rows kernel)) k) p
+  slot-but k p = if k == slot then here-but p else slot-has (forest_of kernel).keys (domains kernel) (at (roots_by (fixed_rows kernel)) k) p
 
   unfoldable pub slots-but : ℕ → Bool
   slots-but p = any_below (λ k. slot-but k p) 64
@@ -104,12 +104,12 @@ module _ (kernel : Kernel) (good : Accounted kernel) (slot root space page : ℕ
   unfolding machine_of
   goes ended = let no_space = (good.machine.zombies slot root there ended).0 in let both : None ≡ Some space = sym no_space ∙ own in cc
 
-  slot-same : (k p : ℕ) → p ≢ found.page → slot-but k p ≡ slot-has keys (domains kernel) (at (roots_of (fixed_rows kernel)) k) p
+  slot-same : (k p : ℕ) → p ≢ found.page → slot-but k p ≡ slot-has keys (domains kernel) (at (roots_by (fixed_rows kernel)) k) p
   unfolding slot-but here-but slot-has domain-has
   slot-same k p apart = ⊎_elim
       (λ (e : (k == slot) ≡ true).
       let same : k ≡ slot = eqb-true k slot e in
-      let owned : at (roots_of (fixed_rows kernel)) k ≡ Some root = ap (at (roots_of (fixed_rows kernel))) same ∙ there in
+      let owned : at (roots_by (fixed_rows kernel)) k ≡ Some root = ap (at (roots_by (fixed_rows kernel))) same ∙ there in
       rw (e, owned, own) (ap (λ b. b || is_label p (at (domains kernel) root).buffer) (but-same keys space page found.page p named-here apart)))
       (λ (e : (k == slot) ≡ false). rw e refl)
       (cases_Bool (k == slot))
@@ -126,15 +126,15 @@ module _ (kernel : Kernel) (good : Accounted kernel) (slot root space page : ℕ
       let mine : count_below (λ n. maps-but keys space page (first + n)) kernel.size + 1 ≤ mapped_pages (memory_in (machine_of kernel) (at (domains kernel) root).space) = rw own few in
       omega (arith, count-label first (at (domains kernel) root).buffer kernel.size)
 
-  slot-left : count_below (λ n. slot-but slot (first + n)) kernel.size + 1 ≤ process_pages (option_map (λ root. process_in (machine_of kernel) (at (domains kernel) root)) (at (roots_of (fixed_rows kernel)) slot))
+  slot-left : count_below (λ n. slot-but slot (first + n)) kernel.size + 1 ≤ process_pages (option_map (λ root. process_in (machine_of kernel) (at (domains kernel) root)) (at (roots_by (fixed_rows kernel)) slot))
   unfolding slot-but process_in machine_of
   slot-left = rw (eq-eqb slot slot refl, there) (live-left (machine_of kernel) _ (machine_of kernel).page_bytes (at (domains kernel) root) (at (domains kernel) root).phase goes here-few)
 
-  other-few : (k : ℕ) → k < 64 → count_below (λ n. slot-but k (first + n)) kernel.size ≤ process_pages (option_map (λ root. process_in (machine_of kernel) (at (domains kernel) root)) (at (roots_of (fixed_rows kernel)) k))
+  other-few : (k : ℕ) → k < 64 → count_below (λ n. slot-but k (first + n)) kernel.size ≤ process_pages (option_map (λ root. process_in (machine_of kernel) (at (domains kernel) root)) (at (roots_by (fixed_rows kernel)) k))
   unfolding slot-but machine_of
   other-few k below = ⊎_elim
       (λ (e : (k == slot) ≡ true). let same : k ≡ slot = eqb-true k slot e in rw same (let left = slot-left in omega arith))
-      (λ (e : (k == slot) ≡ false). rw e (slot-few (machine_of kernel) first kernel.size k (at (roots_of (fixed_rows kernel)) k) (λ root owned. good.machine.zombies k root owned)))
+      (λ (e : (k == slot) ≡ false). rw e (slot-few (machine_of kernel) first kernel.size k (at (roots_by (fixed_rows kernel)) k) (λ root owned. good.machine.zombies k root owned)))
       (cases_Bool (k == slot))
 
   slots-left : count_below (λ n. slots-but (first + n)) kernel.size + 1 ≤ sum_below (λ slot. process_pages (at (view (machine_of kernel)).processes slot)) 64
@@ -168,7 +168,7 @@ module _ (kernel : Kernel) (good : Accounted kernel) (slot root space page : ℕ
       has-but slot (slot-below (fixed_rows kernel) slot root there) (rw (eq-eqb slot slot refl) (or_left _ (is_label found.page (at (domains kernel) root).buffer) but))
 
   -- in another slot
-  elsewhere : (k other_root other number : ℕ) → k ≢ slot → at (roots_of (fixed_rows kernel)) k ≡ Some other_root → (at (domains kernel) other_root).space ≡ Some other → number < 2 ^ 19
+  elsewhere : (k other_root other number : ℕ) → k ≢ slot → at (roots_by (fixed_rows kernel)) k ≡ Some other_root → (at (domains kernel) other_root).space ≡ Some other → number < 2 ^ 19
       → shared_page keys (other, number) ≡ Some found.page → slots-but found.page ≡ true
   unfolding slot-but slot-has domain-has
   elsewhere k other_root other number apart owned other_own below label =
@@ -185,10 +185,10 @@ module _ (kernel : Kernel) (good : Accounted kernel) (slot root space page : ℕ
   only-here other number below alone is_space label (Some OfProcess) owned =
       let h = good.machine.held.spaces other is_space owned in
       let k = (at (domains kernel) h.0).slot in
-      let in_slot : at (roots_of (fixed_rows kernel)) k ≡ Some h.0 = good.machine.in_slots h.0 h.1 in
+      let in_slot : at (roots_by (fixed_rows kernel)) k ≡ Some h.0 = good.machine.in_slots h.0 h.1 in
       ⊎_elim
       (λ (e : k ≡ slot).
-      let both : Some h.0 ≡ Some root = sym in_slot ∙ ap (at (roots_of (fixed_rows kernel))) e ∙ there in
+      let both : Some h.0 ≡ Some root = sym in_slot ∙ ap (at (roots_by (fixed_rows kernel))) e ∙ there in
       let same_root : h.0 ≡ root = cc in
       let spaces : Some other ≡ Some space = sym h.2 ∙ ap (λ r. (at (domains kernel) r).space) same_root ∙ own in
       let same : other ≡ space = cc in

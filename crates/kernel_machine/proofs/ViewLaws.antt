@@ -31,7 +31,7 @@ changed_at f g n x there same = fun_ext (λ k. ⊎_elim
     (cases_eq k n))
 
 -- what is made of a table that is changed at a place
-mapped_changed : {X Y : Type 0} (make : X → Y) (table : ℕ → Option X) (n : ℕ) (x : Option X)
+pub mapped_changed : {X Y : Type 0} (make : X → Y) (table : ℕ → Option X) (n : ℕ) (x : Option X)
     → (λ k. option_map make (at (with_at table n x) k)) ≡ with_at (λ k. option_map make (at table k)) n (option_map make x)
 unfolding at
 mapped_changed make table n x =

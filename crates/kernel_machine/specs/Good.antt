@@ -1,7 +1,6 @@
 -- What holds of the kernel's tables between turns. Each part speaks of the fields that it reads, so that a change of others
 -- leaves it as it is. All rules that speak of processes and files alone are those of the flat state (`IsUnix`).
-use Rattle.std.specs.Prelude.{◌≡◌, ◌≢◌, ℕ, ◌+◌, ◌<◌, Option, Some, None, IsSome, List, [], length, slice_index_or}
-use Rattle.kn_base.specs.declared.key.Key.{Key}
+use Rattle.std.specs.Prelude.{◌≡◌, ◌≢◌, ℕ, ◌+◌, Option, Some, None, List, [], slice_index_or}
 use Rattle.kernel_tables.specs.Kernel.{Kernel}
 use Rattle.kernel_tables.specs.Rows.{domain_rows}
 use Rattle.space_bank.specs.Bank.{BankGood}
@@ -67,15 +66,10 @@ pub record MachineGood (calls : Calls) (machine : KernelMachine) : Type 0 where
   pub unix : IsUnix calls (view machine)
   pub parked : ParkedGood calls machine
 
--- the bytes at each place of a node spell a key
-abbrev pub AllSpelled : List (Option Key) → Type 0
-AllSpelled keys = (place : ℕ) → place < length keys → IsSome (slice_index_or keys place None)
-
 pub record Good (calls : Calls) (kernel : Kernel) : Type 0 where
   pub bank : BankGood kernel
   pub whole : AllWhole kernel.bank
   pub unused : UnusedGood kernel.page_zero kernel.other_words
-  pub spelled : AllSpelled kernel.keys
   pub fixed : FixedNodes kernel.keys
   pub trees : TreesGood kernel (named_by kernel.inodes) []
   pub pages_inside : NoPageOutside (forest_of kernel) (outside_trees kernel (named_by kernel.inodes))

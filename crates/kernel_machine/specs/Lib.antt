@@ -8,4 +8,6 @@ pub mod Counts
 pub mod Held
 pub mod Good
 pub mod Laws
+pub mod Keeps
+pub mod Standing
 pub mod Bounds

@@ -1,7 +1,6 @@
 -- The machine in which servers speak: one record, and one function of the kernel's tables.
 use Rattle.std.specs.Prelude.{ℕ, ◌+◌, ◌-◌, ◌/◌, ◌%◌, nat_lt, if◌then◌else◌, Option, Some, None, List}
 use Rattle.kn_base.specs.declared.key.Key.{Key}
-use Rattle.kn_base.specs.declared.key.Key.TheVariants.{Domain}
 use Rattle.kernel_tables.specs.declared.row.Row.{Row}
 use Rattle.kernel_tables.specs.declared.row.Row.TheVariants.{Free, Used, Unspelled}
 use Rattle.kernel_tables.specs.declared.inode.Inode.{Inode}
@@ -12,10 +11,9 @@ use Rattle.kernel_tables.specs.declared.entry.Entry.TheVariants as entry
 use Rattle.kernel_tables.specs.declared.machine.Machine.{Machine as Words}
 use Rattle.kernel_tables.specs.Kernel.{Kernel, first_page, inode_at, description_at, memory_page}
 use Rattle.kernel_tables.specs.Rows.{entry_at, fixed_rows}
-use Rattle.unix_model.specs.Limits.{slot_count}
 use Rattle.forest.specs.Forest.{Forest}
 use Rattle.kernel_forest.specs.Trees.{forest_of}
-use Rattle.domain.specs.Domains.{Domain as Process, Life, domains, lives}
+use Rattle.domain.specs.Domains.{Domain as Process, Life, domains, lives, roots}
 
 -- Slots name the roots of their domains, and the resume room has the key by which the domain of a slot goes on. What a root
 -- is, and whether it is called, runs or waits, is by the number of its node. Trees, the bytes of pages and who owns them,
@@ -32,17 +30,9 @@ pub record KernelMachine : Type 0 where
   pub descriptions : ℕ → Option Description
   pub words : Words
 
--- the root that a key of the slot table names
-abbrev pub root_in : Key → Option ℕ
-root_in (Domain root) = Some root.0
-root_in _ = None
-
--- slot s has key s % 16 of node 7 + s / 16 in the resume room, and of node 11 + s / 16 in the slot table
+-- slot s has key s % 16 of node 7 + s / 16 in the resume room
 unfoldable pub room_of : (ℕ → ℕ → Key) → ℕ → Key
 room_of fixed = λ slot. fixed (7 + slot / 16) (slot % 16)
-
-unfoldable pub roots_of : (ℕ → ℕ → Key) → ℕ → Option ℕ
-roots_of fixed = λ slot. if nat_lt slot slot_count then root_in (fixed (11 + slot / 16) (slot % 16)) else None
 
 -- what a row holds
 abbrev pub held : {X : Type 0} → Row X → Option X
@@ -71,7 +61,7 @@ descriptions_of kernel = λ number. held (description_at kernel number)
 unfoldable pub machine_of : Kernel → KernelMachine
 machine_of kernel =
     record {
-      roots = roots_of (fixed_rows kernel);
+      roots = roots kernel;
       room = room_of (fixed_rows kernel);
       lives = lives kernel;
       domains = domains kernel;

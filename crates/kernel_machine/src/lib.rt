@@ -4,6 +4,8 @@
 mod bounds;
 mod calls;
 mod changes;
+mod keeps;
+mod standing;
 mod views;
 
 pub use bounds::{
@@ -15,6 +17,12 @@ pub use calls::{description_set, domain_set, inode_set, life_set, roots_differ};
 pub use changes::{
     description_written, files_written, inode_written, key_handed_over, numbers_written,
     spaces_changed,
+};
+pub use keeps::{fixed_with_birth, fixed_with_rows, trees_with_birth, trees_with_numbers};
+pub use standing::{
+    good_is_both, put_leaves, remap_leaves, slots_changed, standing_with_bytes,
+    standing_with_description, standing_with_inode, standing_with_life, standing_with_memory,
+    standing_with_numbers, standing_with_tree, standing_with_words,
 };
 pub use views::{
     description_changed, description_freed, domain_born, domain_changed, domain_gone,

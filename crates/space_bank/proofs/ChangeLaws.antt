@@ -187,6 +187,7 @@ bank_good-node_counted kernel n count below was some good =
             set_cases (λ e. e ≢ Fixed) kernel.node_entries n m entry inside (λ same. taken_unfixed entry now)
             (λ other. good.nodes.others m past under);
         all_keys = good.nodes.all_keys;
+        spelled = good.nodes.spelled;
         nulls =
             λ m k.
             set_cases

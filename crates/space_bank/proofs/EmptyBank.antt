@@ -6,9 +6,10 @@ use Rattle.std.proofs.lemmas.List.{places, same_lists, length-append, length-rep
 use Rattle.std.proofs.lemmas.List.FromFn.{length-map-range_with_len, get_or-map-range_with_len}
 use Rattle.std.proofs.lemmas.List.Folds.{sum_by-replicate}
 use Rattle.std.proofs.lemmas.List.Sums.{sum_by-append, sum_by-cons}
+use Rattle.std.specs.Option.{IsSome}
 use Rattle.std.specs.List.{range_with_len, sum_by}
 use Rattle.kn_base.specs.declared.key.Key.{Key}
-use Rattle.kn_base.specs.declared.key.Key.TheVariants.{Null}
+use Rattle.kn_base.specs.declared.key.Key.TheVariants.{Null, Service}
 use Rattle.kn_base.specs.Memory.{zero_page}
 use Rattle.kn_base.specs.Rows.{overwritten}
 use Rattle.kn_base.proofs.RowLaws.{overwritten-none, length-overwritten}
@@ -18,15 +19,16 @@ use Rattle.kernel_tables.specs.declared.entry.Entry.{Entry}
 use Rattle.kernel_tables.specs.declared.entry.Entry.TheVariants.{Free, Fixed, Unspelled}
 use Rattle.kernel_tables.specs.Kernel.{Kernel, zero_kernel, first_page, entry_pages, node_count}
 use Rattle.kernel_tables.specs.declared.row.Row.TheVariants.{Used}
-use Rattle.space_bank.specs.Fixed.{console_inode, empty_root}
+use Rattle.space_bank.specs.Fixed.{state_key, console_inode, empty_root}
 use Rattle.kernel_tables.specs.Rows.{entry_at}
 use Rattle.space_bank.specs.FreeList.{is_free, is_free_at, taken_one, shares, following, Linked, taken_count}
-use Rattle.space_bank.specs.Bank.{BankGood, EntriesGood, PagesGood, NodesGood, memory_count, memory_taken_one}
+use Rattle.space_bank.specs.Bank.{AllSpelled, BankGood, EntriesGood, PagesGood, NodesGood, memory_count, memory_taken_one}
 use Rattle.space_bank.specs.Shares.{Shares, NoneNamed, nothing_outside, key_names_page, key_names_node, page_places, node_places, page_in_hand, node_in_hand}
 use Rattle.space_bank.specs.Setup.{free_entries, empty_entries, with_service_roots, empty_bank}
 use Rattle.space_bank.proofs.SetupLaws.{linked-free_list}
 use Rattle.space_bank.proofs.FreshLaws.{length-with_service_roots, key-above, unnamed-fresh}
 use Rattle.space_bank.proofs.BankLaws.{first_page-some}
+use Rattle.space_bank.proofs.EntryLaws.{spelled_with}
 
 length-free_entries : (O : Type 0) (base count start n : ℕ) → length (free_entries {O = O} base count start n) ≡ n
 unfolding free_entries
@@ -177,6 +179,23 @@ pages_good-empty size some =
       zeros = λ n free. get_or-replicate size n zero_page [] (free_inside size entries n free);
     }
 
+-- all keys of an empty bank are spelled
+spelled-roots : (keys : List (Option Key)) (n : ℕ) → 16 * n + 16 ≤ length keys → AllSpelled keys → AllSpelled (with_service_roots keys n)
+unfolding with_service_roots
+spelled-roots keys zero fits spelled = spelled
+spelled-roots keys (suc n) fits spelled =
+    let before = with_service_roots keys n in
+    let own : List (Option Key) = set before (16 * (n + 1)) (Some (Service (n + 1))) in
+    let sizes : length before ≡ length keys = length-with_service_roots keys n in
+    let longer : length own ≡ length before = length-set before (16 * (n + 1)) (Some (Service (n + 1))) in
+    spelled_with own (16 * (n + 1) + 6) (state_key 0 0) (omega arith)
+    (spelled_with before (16 * (n + 1)) (Service (n + 1)) (omega arith) (spelled-roots keys n (omega arith) spelled))
+
+spelled-nulls : (count : ℕ) → AllSpelled (replicate count (Some Null))
+spelled-nulls count place low =
+    subst (λ (k : Option Key). IsSome k)
+    (sym (get_or-replicate {A = Option Key} count place (Some Null) None (omega (arith, length-replicate {A = Option Key} count (Some Null))))) refl
+
 nodes_good-empty : (nodes : ℕ) → 16 ≤ nodes → NodesGood nodes (empty_entries 0 nodes 15) 15 0 (with_service_roots (replicate (16 * nodes) (Some Null)) 6)
 nodes_good-empty nodes some =
     let entries : List (Entry NodeOwner) = empty_entries 0 nodes 15 in
@@ -188,6 +207,8 @@ nodes_good-empty nodes some =
           λ n past inside e.
           let no : Free (following 0 nodes n) ≡ Fixed = sym (empty-linked NodeOwner 0 nodes 15 n past inside) ∙ e in cc;
       all_keys = length-with_service_roots nulls 6 ∙ length-replicate (16 * nodes) (Some Null);
+      spelled =
+          spelled-roots nulls 6 (omega (arith, length-replicate {A = Option Key} (16 * nodes) (Some Null))) (spelled-nulls (16 * nodes));
       nulls =
           λ n k free low.
           let inside = free_inside nodes entries n free in

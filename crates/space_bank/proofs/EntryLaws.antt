@@ -17,7 +17,8 @@ use Rattle.kernel_tables.specs.declared.entry.Entry.TheVariants.{Free, Taken, Fi
 use Rattle.kernel_tables.specs.Kernel.{first_page}
 use Rattle.kernel_tables.specs.Rows.{entry_at}
 use Rattle.space_bank.specs.FreeList.{is_free, next_of, shares, taken_one, IsFreeList, taken_count}
-use Rattle.space_bank.specs.Bank.{EntriesGood, PagesGood, NodesGood, IsFirstFree, memory_one, memory_taken_one, memory_count}
+use Rattle.std.specs.Option.{IsSome}
+use Rattle.space_bank.specs.Bank.{AllSpelled, EntriesGood, PagesGood, NodesGood, IsFirstFree, memory_one, memory_taken_one, memory_count}
 use Rattle.space_bank.proofs.FreeListLaws.{entry_inside, free_list-taken, free_list-given, taken_count-set, taken_count-few, sum_by-few}
 
 -- what holds of an entry that is written and of each other one
@@ -233,6 +234,7 @@ nodes_good-taken nodes entries first taken keys n owner head good =
           set_cases (λ e. e ≢ Fixed) entries n m (Taken owner 1) inside
           (λ same e. let no : Taken owner 1 ≡ Fixed = e in cc) (λ other. good.others m past below);
       all_keys = good.all_keys;
+      spelled = good.spelled;
       nulls =
           λ m k.
           set_cases (λ e. (nat_lt m nodes && is_free e) ≡ true → k < 16 → get_or keys (16 * m + k) None ≡ Some Null) entries n m
@@ -257,6 +259,36 @@ nulls_beside keys n m k fits other low =
     (λ (above : n ≤ m). get_or-overwritten_above keys (16 * n) (replicate 16 (Some Null)) (16 * m + k) None (omega arith) (omega arith))
     (cases_lt m n)
 
+-- all keys are spelled where one is written, ..
+pub spelled_with : (keys : List (Option Key)) (n : ℕ) (key : Key) → n < length keys → AllSpelled keys → AllSpelled (set keys n (Some key))
+spelled_with keys n key inside spelled place low =
+    ⊎_elim
+    (λ (same : n ≡ place). subst (λ (k : Option Key). IsSome k) (sym (ap (λ k. get_or (set keys n (Some key)) k None) (sym same) ∙ get_or-set_same keys n (Some key) None inside)) refl)
+    (λ (other : n ≢ place).
+    subst (λ (k : Option Key). IsSome k) (sym (get_or-set_other keys n place (Some key) None (λ e. other (sym e))))
+    (spelled place (omega (arith, length-set keys n (Some key)))))
+    (cases_eq n place)
+
+-- .. and where those of a node become Null
+spelled_beside : (keys : List (Option Key)) (n : ℕ) → 16 * n + 16 ≤ length keys → AllSpelled keys → AllSpelled (overwritten keys (16 * n) (replicate 16 (Some Null)))
+spelled_beside keys n fits spelled place low =
+    let nulls : List (Option Key) = replicate 16 (Some Null) in
+    let long : length nulls ≡ 16 = length-replicate {A = Option Key} 16 (Some Null) in
+    let all : length (overwritten keys (16 * n) nulls) ≡ length keys = length-overwritten keys (16 * n) nulls (omega arith) in
+    ⊎_elim
+    (λ (below : place < 16 * n).
+    subst (λ (k : Option Key). IsSome k) (sym (get_or-overwritten_below keys (16 * n) nulls place None (omega arith) below)) (spelled place (omega arith)))
+    (λ (high : 16 * n ≤ place).
+    ⊎_elim
+    (λ (inside : place < 16 * n + 16).
+    subst (λ (k : Option Key). IsSome k)
+    (sym (get_or-overwritten_in keys (16 * n) nulls place None (omega arith) high (omega arith) ∙ get_or-replicate {A = Option Key} 16 (place - 16 * n) (Some Null) None (omega arith)))
+    refl)
+    (λ (above : 16 * n + 16 ≤ place).
+    subst (λ (k : Option Key). IsSome k) (sym (get_or-overwritten_above keys (16 * n) nulls place None (omega arith) (omega arith))) (spelled place (omega arith)))
+    (cases_lt place (16 * n + 16)))
+    (cases_lt place (16 * n))
+
 -- a taken node is given back
 pub nodes_good-given : (nodes : ℕ) (entries : List (Entry NodeOwner)) (first taken : ℕ) (keys : List (Option Key)) (n : ℕ) → n < nodes → taken_one (entry_at entries n) ≡ 1 → NodesGood nodes entries first taken keys → NodesGood nodes (set entries n (Free first)) n (taken - 1) (overwritten keys (16 * n) (replicate 16 (Some Null)))
 nodes_good-given nodes entries first taken keys n below was_taken good =
@@ -278,6 +310,7 @@ nodes_good-given nodes entries first taken keys n below was_taken good =
           set_cases (λ e. e ≢ Fixed) entries n m (Free first) inside
           (λ same e. let no : Free first ≡ Fixed = e in cc) (λ other. good.others m past under);
       all_keys = length-overwritten keys (16 * n) (replicate 16 (Some Null)) (omega arith) ∙ good.all_keys;
+      spelled = spelled_beside keys n fits good.spelled;
       nulls =
           λ m k.
           set_cases

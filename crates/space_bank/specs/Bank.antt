@@ -1,6 +1,6 @@
 -- What the bank keeps of a store: sizes and ranges, exact free lists, the numbers of what is taken, zeros in all that
 -- is free, and share counts.
-use Rattle.std.specs.Prelude.{◌≡◌, ◌≢◌, ℕ, ◌+◌, ◌-◌, ◌*◌, ◌<◌, ◌≤◌, ◌^◌, ◌==◌, true, false, Option, Some, None, List, [], length, slice_index_or, slice_set, replicate, if◌then◌else◌}
+use Rattle.std.specs.Prelude.{◌≡◌, ◌≢◌, ℕ, ◌+◌, ◌-◌, ◌*◌, ◌<◌, ◌≤◌, ◌^◌, ◌==◌, true, false, Option, Some, None, IsSome, List, [], length, slice_index_or, slice_set, replicate, if◌then◌else◌}
 use Rattle.std.specs.List.{sum_by}
 use Rattle.kn_base.specs.declared.key.Key.{Key}
 use Rattle.kn_base.specs.declared.key.Key.TheVariants.{Null}
@@ -54,12 +54,18 @@ pub record PagesGood (size : ℕ) (entries : List (Entry PageOwner)) (first take
   pub pages : length bank ≡ size
   pub zeros : (n : ℕ) → is_free_at size entries n ≡ true → slice_index_or bank n [] ≡ zero_page
 
--- The nodes: their entries, of which those of nodes 0 to 14 and no others are fixed, and Null keys in each free node.
+-- the bytes at each place of a node spell a key
+abbrev pub AllSpelled : List (Option Key) → Type 0
+AllSpelled keys = (place : ℕ) → place < length keys → IsSome (slice_index_or keys place None)
+
+-- The nodes: their entries, of which those of nodes 0 to 14 and no others are fixed, keys that are spelled, and Null keys in
+-- each free node.
 pub record NodesGood (nodes : ℕ) (entries : List (Entry NodeOwner)) (first taken : ℕ) (keys : List (Option Key)) : Type 0 where
   pub entries_good : EntriesGood entries 0 nodes first taken
   pub fixed : (n : ℕ) → n < 15 → entry_at entries n ≡ Fixed
   pub others : (n : ℕ) → 15 ≤ n → n < nodes → entry_at entries n ≢ Fixed
   pub all_keys : length keys ≡ 16 * nodes
+  pub spelled : AllSpelled keys
   pub nulls : (n k : ℕ) → is_free_at nodes entries n ≡ true → k < 16 → slice_index_or keys (16 * n + k) None ≡ Some Null
 
 -- The ranges of the machine's words: the bank's size, the quantum, the position in the round, the next process id, and

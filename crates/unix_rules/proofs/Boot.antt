@@ -12,8 +12,8 @@ use Rattle.unix_model.specs.Files.{Console, Description, Directory, Entry, Files
 use Rattle.unix_model.specs.Limits.{most_file_bytes, most_places}
 use Rattle.unix_model.specs.NameCalls.{with_made}
 use Rattle.unix_model.specs.Paths.{Spot, file_at, spot_inode, walked}
-use Rattle.unix_model.specs.Process.{Process, Phase, Run, Asked, Sent, Done, Exiting, Zombie}
-use Rattle.unix_model.specs.Rules.{AreInodes, AreSlots, IsByte, IsDescription, IsInode, IsPhase, IsProcess, IsUnix, entry_at}
+use Rattle.unix_model.specs.Process.{Process, Phase, Run, Asked, Sent, Done, Exiting, Zombie, descriptor}
+use Rattle.unix_model.specs.Rules.{AreInodes, AreSlots, IsByte, IsDescription, IsInode, IsPhase, IsProcess, IsUnix, AreSent, entry_at}
 use Rattle.unix_model.specs.State.{Unix}
 use Rattle.unix_model.specs.Tables.{at, nothing, with_at}
 use Rattle.unix_model.specs.Turn.{turned}
@@ -40,7 +40,7 @@ use Rattle.unix_rules.proofs.Trees.{Tree, from-tree}
 use Rattle.unix_rules.proofs.Walks.{walk-is}
 use Rattle.unix_rules.specs.FileRules.{AreFiles}
 use Rattle.unix_rules.specs.ProcessRules.{AreKin, Each, HasBody, HasPhase, IsAnswer}
-use Rattle.unix_rules.specs.WholeRules.{BootGivesUnix, IsEntry, IsPathByte, UnixKept}
+use Rattle.unix_rules.specs.WholeRules.{AloneIsUnix, BootGivesUnix, IsEntry, IsPathByte, UnixKept}
 
 -- ---- a turn
 
@@ -104,11 +104,11 @@ unix_kept calls unix slot input small is =
 
 -- ---- boot: before anything is stored
 
-nothing-some : {X : Type 0} (n : ℕ) (x : X) → at nothing n ≡ Some x → ⊥
+pub nothing-some : {X : Type 0} (n : ℕ) (x : X) → at nothing n ≡ Some x → ⊥
 unfolding at nothing
 nothing-some n x e = some-differ x e
 
-none-there : {X : Type 0} (n : ℕ) → at (nothing {X = X}) n ≡ None
+pub none-there : {X : Type 0} (n : ℕ) → at (nothing {X = X}) n ≡ None
 unfolding at nothing
 none-there n = refl
 
@@ -126,16 +126,19 @@ first-of n inode e = by_root (put-reads (with_at nothing console_inode (Some Con
     by_root (inr other) = by_console (put-reads nothing console_inode n Console inode other.1)
 
 -- nothing has an entry
-first-empty : (found : Option Inode) (place : ℕ) → ((inode : Inode) → found ≡ Some inode → places_of (Some inode) ≡ []) → get_or (places_of found) place None ≡ None
-first-empty None place none = refl
-first-empty (Some inode) place none = ap (λ (l : List (Option Entry)). get_or l place None) (none inode refl)
+first-empty : (found : Option Inode) → ((inode : Inode) → found ≡ Some inode → places_of (Some inode) ≡ []) → places_of found ≡ []
+first-empty None none = refl
+first-empty (Some inode) none = none inode refl
 
-no-entry : (directory place : ℕ) → entry_at first_inodes directory place ≡ None
-no-entry directory place = first-empty (at first_inodes directory) place (λ inode e. places_none inode (first-of directory inode e))
+pub first-places : (number : ℕ) → places_of (at first_inodes number) ≡ []
+first-places number = first-empty (at first_inodes number) (λ inode e. places_none inode (first-of number inode e))
   where
-    places_none : (inode : Inode) → ((directory ≡ root_inode) × (Directory root_inode [] ≡ inode)) ⊎ ((directory ≡ console_inode) × (Console ≡ inode)) → places_of (Some inode) ≡ []
+    places_none : (inode : Inode) → ((number ≡ root_inode) × (Directory root_inode [] ≡ inode)) ⊎ ((number ≡ console_inode) × (Console ≡ inode)) → places_of (Some inode) ≡ []
     places_none inode (inl own) = ap (λ (i : Inode). places_of (Some i)) (sym own.1)
     places_none inode (inr own) = ap (λ (i : Inode). places_of (Some i)) (sym own.1)
+
+no-entry : (directory place : ℕ) → entry_at first_inodes directory place ≡ None
+no-entry directory place = ap (λ (l : List (Option Entry)). get_or l place None) (first-places directory)
 
 root-there : at first_inodes root_inode ≡ Some (Directory root_inode [])
 unfolding first_inodes
@@ -294,41 +297,38 @@ first-phase : (file : List ℕ) (plan : LoadPlan) → HasPhase (first_process fi
 unfolding first_process
 first-phase file plan = tt
 
-first-kin : (file : List ℕ) (plan : LoadPlan) → ((first_process file plan).pid ≡ 1) × ((first_process file plan).parent ≡ 0)
+first-ids : (file : List ℕ) (plan : LoadPlan) → ((first_process file plan).pid ≡ 1) × ((first_process file plan).parent ≡ 0)
 unfolding first_process
-first-kin file plan = (refl, refl)
+first-ids file plan = (refl, refl)
 
-module _ (unix : Unix) (file : List ℕ) (plan : LoadPlan) (stored : Stored unix) where
-  abbrev first : Process
-  first = first_process file plan
-
+module _ (unix : Unix) (first : Process) (no_process : unix.processes ≡ nothing) where
   abbrev slots : ℕ → Option Process
-  slots = (started unix file plan).processes
+  slots = with_at unix.processes 0 (Some first)
 
   only : (slot : ℕ) (process : Process) → at slots slot ≡ Some process → (slot ≡ 0) × (first ≡ process)
   only slot process e = by_place (put-reads unix.processes 0 slot first process e)
     where
       by_place : ((slot ≡ 0) × (first ≡ process)) ⊎ ((slot ≢ 0) × (at unix.processes slot ≡ Some process)) → (slot ≡ 0) × (first ≡ process)
       by_place (inl own) = own
-      by_place (inr other) = absurd (nothing-some slot process (ap (λ (p : ℕ → Option Process). at p slot) (sym stored.no_process) ∙ other.1))
+      by_place (inr other) = absurd (nothing-some slot process (ap (λ (p : ℕ → Option Process). at p slot) (sym no_process) ∙ other.1))
 
   only-has : (P : Process → Type 0) → P first → Each P slots
   only-has P holds slot process e = subst P (only slot process e).1 holds
 
-  started-kin : AreKin slots 2
-  started-kin =
+  first-kin : first.pid ≡ 1 → first.parent ≡ 0 → AreKin slots 2
+  first-kin pid parent =
       record {
         pids = record {
-          first = λ process e. only-has (λ p. p.pid ≡ 1) (first-kin file plan).0 0 process e;
+          first = λ process e. only-has (λ p. p.pid ≡ 1) pid 0 process e;
           there = ap is_some (at-with_at unix.processes 0 (Some first));
-          least = only-has (λ p. 1 ≤ p.pid) (omega (arith, (first-kin file plan).0));
-          most = only-has (λ p. p.pid < 2) (omega (arith, (first-kin file plan).0));
+          least = only-has (λ p. 1 ≤ p.pid) (omega (arith, pid));
+          most = only-has (λ p. p.pid < 2) (omega (arith, pid));
           differ = λ slot other process second e f same. (only slot process e).0 ∙ sym (only other second f).0;
           limit = omega arith;
         };
         parents = record {
-          first = λ process e. only-has (λ p. p.parent ≡ 0) (first-kin file plan).1 0 process e;
-          older = only-has (λ p. p.parent < p.pid) (omega (arith, (first-kin file plan).0, (first-kin file plan).1));
+          first = λ process e. only-has (λ p. p.parent ≡ 0) parent 0 process e;
+          older = only-has (λ p. p.parent < p.pid) (omega (arith, pid, parent));
           lives = λ slot process e apart. absurd (apart (only slot process e).0);
         };
       }
@@ -344,9 +344,9 @@ started-is : Starts Stored Started
 started-is unix file plan stored found planned room =
     let all : All IsByte file = file-bytes unix.files init_path file stored.all.ruled.inodes found in
     record {
-      bodies = only-has unix file plan stored HasBody (first-body file plan all planned);
-      phases = only-has unix file plan stored HasPhase (first-phase file plan);
-      kin = started-kin unix file plan stored;
+      bodies = only-has unix (first_process file plan) stored.no_process HasBody (first-body file plan all planned);
+      phases = only-has unix (first_process file plan) stored.no_process HasPhase (first-phase file plan);
+      kin = first-kin unix (first_process file plan) stored.no_process (first-ids file plan).0 (first-ids file plan).1;
       files = from-ruled (started unix file plan).files (started-files unix file plan stored);
     }
 
@@ -366,4 +366,33 @@ boot_gives_unix calls pages quantum entries unix sizes such e =
       kept = begun.files.kept;
       descriptions = begun.files.descriptions;
       opens = rules.opens;
+    }
+
+-- ---- one process alone
+
+pub alone_is_unix : AloneIsUnix
+unfolding empty_machine AreSent
+alone_is_unix calls pages quantum first sizes alone =
+    let files : AreFiles first_files = from-ruled first_files first-ruled in
+    let kin : AreKin (slots (empty_machine pages quantum) first refl) 2 = first-kin (empty_machine pages quantum) first refl alone.pid alone.parent in
+    record {
+      sizes = sizes;
+      slots = record {
+        end = λ slot past. at-with_at-other nothing 0 slot (Some first) (λ same. absurd (omega (arith, past, same))) ∙ none-there slot;
+        each = only-has (empty_machine pages quantum) first refl IsProcess alone.is;
+      };
+      pids = kin.pids;
+      parents = kin.parents;
+      sent = λ slot process sent there phase.
+          let e : Run ≡ Sent sent = sym alone.runs ∙ ap (λ (p : Process). p.phase) (only (empty_machine pages quantum) first refl slot process there).1 ∙ phase in cc;
+      inodes = files.inodes;
+      names = files.names;
+      tree = files.tree;
+      kept = files.kept;
+      descriptions = files.descriptions;
+      opens = record {
+        named = λ number some. absurd (true-false (sym some ∙ ap is_some (none-there number)));
+        there = λ slot number description process there names.
+            some-differ description (sym (alone.closed number) ∙ ap (λ (p : Process). descriptor p number) (only (empty_machine pages quantum) first refl slot process there).1 ∙ names);
+      };
     }

@@ -16,4 +16,4 @@ pub use names::link_then_unlink;
 pub use processes::{bodies_kept, executed_stays, kin_kept, phases_kept};
 pub use refusals::{keeper_rows, pipe_wants_inode, server_rows};
 pub use waits::waiting_lasts;
-pub use whole::{runs_stay, unix_stays};
+pub use whole::{alone_is_right, runs_stay, unix_stays};

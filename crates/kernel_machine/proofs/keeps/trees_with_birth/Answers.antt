@@ -1,0 +1,5 @@
+use Rattle.kernel_machine.proofs.KeepLaws.{trees_with_birth}
+use Rattle.kernel_machine.proofs.keeps.trees_with_birth.Goals as goal
+
+pub returns : goal.returns
+returns c = trees_with_birth

@@ -1,0 +1,5 @@
+use Rattle.kernel_machine.proofs.StandingLaws.{standing_with_life}
+use Rattle.kernel_machine.proofs.standing.standing_with_life.Goals as goal
+
+pub returns : goal.returns
+returns c = standing_with_life

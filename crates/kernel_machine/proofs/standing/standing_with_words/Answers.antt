@@ -1,0 +1,5 @@
+use Rattle.kernel_machine.proofs.StandingLaws.{standing_with_words}
+use Rattle.kernel_machine.proofs.standing.standing_with_words.Goals as goal
+
+pub returns : goal.returns
+returns c = standing_with_words
