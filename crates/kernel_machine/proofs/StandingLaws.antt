@@ -486,6 +486,7 @@ in-slot-same room1 room2 lives1 lives2 domains1 domains2 slot root r l d is =
       key = rw (r, l, d) is.key;
       count = rw l is.count;
       fits = rw d is.fits;
+      marks = rw d is.marks;
     }
 
 pub slots_changed : law.SlotsChanged
