@@ -21,7 +21,7 @@ use Rattle.kernel_forest.specs.Releases.{KeepsUnreleased}
 use Rattle.kernel_forest.specs.Trees.{forest_of, outside_trees, page_tree, TreesGood}
 use Rattle.file_tables.specs.Roots.{named_by, ExchangesRoots}
 use Rattle.file_tables.specs.Rows.{InodesGood, DescriptionsGood}
-use Rattle.seg_tree.specs.Promises.{Remaps}
+use Rattle.seg_tree.specs.Promises.{Remaps, Replaces}
 use Rattle.user_copy.specs.SpaceMemory.{space_memory}
 use Rattle.user_copy.specs.Writing.{PutsBytes}
 use Rattle.domain.specs.Domains.{Domain, Life, domains}
@@ -144,6 +144,12 @@ abbrev pub RemapLeaves : Type 0
 RemapLeaves =
     (old new : Kernel) (space few : ℕ) (map : ℕ → Option Mapping) (outside : Outside)
     → TreesGood old outside [] → Remaps old new space few map → LeavesSpaces old new space
+
+-- the one that may give a page back, ..
+abbrev pub ReplaceLeaves : Type 0
+ReplaceLeaves =
+    (old new : Kernel) (space few : ℕ) (map : ℕ → Option Mapping) (outside : Outside)
+    → TreesGood old outside [] → BankGood new → Replaces old new space few map → LeavesSpaces old new space
 
 -- .. and the one that puts bytes.
 abbrev pub PutLeaves : Type 0

@@ -1,6 +1,6 @@
 //! Laws of what stands within a turn too, and of what is settled between turns.
 
-ghost use Rattle.kernel_machine.specs.Standing.{GoodIsBoth, PutLeaves, RemapLeaves, SlotsChanged, StandingWithBytes, StandingWithDescription, StandingWithInode, StandingWithLife, StandingWithMemory, StandingWithNumbers, StandingWithTree, StandingWithWords};
+ghost use Rattle.kernel_machine.specs.Standing.{GoodIsBoth, PutLeaves, RemapLeaves, ReplaceLeaves, SlotsChanged, StandingWithBytes, StandingWithDescription, StandingWithInode, StandingWithLife, StandingWithMemory, StandingWithNumbers, StandingWithTree, StandingWithWords};
 
 /// What stands, and what is settled, is all that holds between turns.
 pub fn good_is_both()
@@ -40,6 +40,11 @@ pub fn standing_with_bytes()
 /// A call that changes a map leaves all other spaces, and whatever belongs to no tree.
 pub fn remap_leaves()
     ensures { RemapLeaves }
+{}
+
+/// So does the call that takes a page out of a map, which may give it back.
+pub fn replace_leaves()
+    ensures { ReplaceLeaves }
 {}
 
 /// So does the call that puts bytes into a space.
