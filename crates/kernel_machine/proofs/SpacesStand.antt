@@ -55,7 +55,7 @@ owner-taken (Taken held count) owner e = (count, (let same : held ≡ owner = cc
 owner-taken Fixed owner e = cc
 owner-taken Unspelled owner e = cc
 
-domain-taken : (entry : Entry NodeOwner) → of_domain entry ≡ true → (count : ℕ) × (entry ≡ Taken DomainNode count)
+pub domain-taken : (entry : Entry NodeOwner) → of_domain entry ≡ true → (count : ℕ) × (entry ≡ Taken DomainNode count)
 domain-taken (Free next) mine = cc
 domain-taken (Taken DomainNode count) mine = (count, refl)
 domain-taken (Taken Tree count) mine = cc
@@ -64,7 +64,7 @@ domain-taken Fixed mine = cc
 domain-taken Unspelled mine = cc
 
 -- a page of such an owner keeps it, and none comes to have it
-owner-kept : (old new : Kernel) (page : ℕ) (owner : PageOwner) → new.size ≡ old.size → KeepsApart old new → page_tree owner ≡ None → at (page_owners old) page ≡ Some owner → at (page_owners new) page ≡ Some owner
+pub owner-kept : (old new : Kernel) (page : ℕ) (owner : PageOwner) → new.size ≡ old.size → KeepsApart old new → page_tree owner ≡ None → at (page_owners old) page ≡ Some owner → at (page_owners new) page ≡ Some owner
 unfolding page_owner_of at
 owner-kept old new page owner size same none owned = ⊎_elim
     (λ (t : nat_lt page (first_page old.size) ≡ true). let no : None ≡ Some owner = rw t at owned in cc)
@@ -190,7 +190,7 @@ mapped-from b1 b2 (Some was) m2 e mapping is =
     let same : page_of b2 mapping ≡ page_of b1 was = cc in
     (was, refl, ap (λ (page : Page). page.writable) same)
 
-tree-by-memory : (k1 k2 : ℕ → Key) (b1 b2 : ℕ → List ℕ) (root size : ℕ) → memory_by b2 (map_of k2 root) ≡ memory_by b1 (map_of k1 root) → IsFileTree k1 b1 root size → IsFileTree k2 b2 root size
+pub tree-by-memory : (k1 k2 : ℕ → Key) (b1 b2 : ℕ → List ℕ) (root size : ℕ) → memory_by b2 (map_of k2 root) ≡ memory_by b1 (map_of k1 root) → IsFileTree k1 b1 root size → IsFileTree k2 b2 root size
 unfolding memory_by
 tree-by-memory k1 k2 b1 b2 root size e tree =
     let here = λ (page : ℕ). ap (λ (memory : Memory). memory page) e in
