@@ -244,6 +244,8 @@ module _ (k0 k1 k2 k3 k4 k5 k6 k7 : Kernel) (slot space r d t : ℕ) (good : Row
         (λ other. ⊎_elim
         (λ e. ap (λ n. is_free (entry_at k0.node_entries n)) e ∙ ap is_free (sym (first d (λ f. r_d (sym f)))) ∙ u2)
         (λ e. ap (λ n. is_free (entry_at k0.node_entries n)) e ∙ ap is_free (sym (middle t t_r t_d)) ∙ u3) other) which;
+    pages_now = ap (λ (k : Kernel). k.page_entries) put.state ∙ ap (λ (k : Kernel). k.page_entries) root.fills.rest ∙ t3.pages_now ∙ ap (λ (k : Kernel). k.page_entries) f2.rest
+        ∙ t2.pages_now ∙ ap (λ (k : Kernel). k.page_entries) f1.rest ∙ t1.pages_now;
     rest = rest_trans k0 k1 k7 t1.rest (rest_trans k1 k2 k7 (rest_keys k1 k2 f1.rest) (rest_trans k2 k3 k7 t2.rest (rest_trans k3 k4 k7 (rest_keys k3 k4 f2.rest) (rest_trans k4 k5 k7 t3.rest (rest_trans k5 k6 k7 (rest_keys k5 k6 root.fills.rest)
         (rest_keys k6 k7 (put.state ∙ ap (λ ks. let n : Kernel = record k6 { keys = ks } in n) (sym (ap (λ (k : Kernel). k.keys) put.state)))))))));
     entry_of_root = after t ∙ t3.entry;

@@ -74,7 +74,7 @@ pub record FillsRoot (old new : Kernel) (root slot space regs descriptors : ℕ)
   pub fills : Fills old new root (root_row life slot space regs descriptors) (root_keys slot space regs descriptors)
 
 -- A domain was made in a free slot. Three nodes were taken for it. The one key of its space, which was in hand or outside, is the
--- domain's now. The trees are as they were.
+-- domain's now. The trees are as they were, and so are the entries of pages.
 pub record MakesDomain (old new : Kernel) (slot space root : ℕ) : Type 0 where
   pub regs : ℕ
   pub descriptors : ℕ
@@ -93,6 +93,7 @@ pub record MakesDomain (old new : Kernel) (slot space root : ℕ) : Type 0 where
   pub entry_of_root : entry_at new.node_entries root ≡ Taken DomainOwner 1
   pub entry_of_regs : entry_at new.node_entries regs ≡ Taken DomainOwner 1
   pub entry_of_descriptors : entry_at new.node_entries descriptors ≡ Taken DomainOwner 1
+  pub pages_now : new.page_entries ≡ old.page_entries
   pub rest : KeepsRest old new
   pub number : new.machine.nodes_taken ≡ old.machine.nodes_taken + 3
   pub shares : (outside : Outside) (hand : List Key) → Shares old outside (key_of_space (Some space) ∷ hand) → Shares new outside hand

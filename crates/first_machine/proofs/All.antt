@@ -41,12 +41,13 @@ use Rattle.unix_rules.specs.WholeRules.{IsAlone}
 use Rattle.unix_rules.proofs.Boot.{alone_is_unix, first-places, none-there, nothing-some}
 use Rattle.unix_rules.proofs.Changed.{put-reads}
 use Rattle.domain.specs.declared.types.Phase.TheVariants.{Run as Running}
+use Rattle.domain.specs.Phases.{FitsPhase, state_for, key_for}
 use Rattle.domain.specs.Domains.{Domain, Life, no_domain, domains, lives, roots}
 use Rattle.kernel_machine.specs.Counts.{InodesCounted, DescriptionsCounted, opens}
 use Rattle.kernel_machine.specs.Good.{Good, MachineGood, MarksFit, ParkedGood}
 use Rattle.kernel_machine.specs.Held.{AllHeld}
 use Rattle.kernel_machine.specs.Machine.{machine_of, room_of, inodes_of, descriptions_of, page_owner_of}
-use Rattle.kernel_machine.specs.Processes.{FitsPhase, IsInSlot, SlotsGood, HoldingsGood, state_for, key_for}
+use Rattle.kernel_machine.specs.Processes.{HasMarks, IsInSlot, SlotsGood, HoldingsGood}
 use Rattle.kernel_machine.specs.Trees.{IsRootOf, RootsGood, KeepersGood, keeper}
 use Rattle.kernel_machine.specs.View.{view, inodes_in, descriptions_in, processes_in}
 use Rattle.kernel_machine.proofs.Counting.{count-never}
@@ -141,7 +142,10 @@ module _ (pages quantum : ℕ) (k0 k1 k2 k3 : Kernel) (space root : ℕ) (m : Ma
   fits = subst (λ (domain : Domain). FitsPhase domain domain.phase) (sym here) first-fits
     where
       first-fits : FitsPhase mine Running
-      first-fits = record { whole = refl; buffer = refl; request = refl; answer = refl; word = refl; space = refl; marks = refl }
+      first-fits = record { whole = refl; buffer = refl; request = refl; answer = refl; word = refl; space = refl }
+
+  marks-first : HasMarks mine Running
+  marks-first = refl
 
   room : (slot : ℕ) → slot < 64 → at (room_of (fixed_rows k3)) slot ≡ Null
   unfolding room_of at
@@ -157,6 +161,7 @@ module _ (pages quantum : ℕ) (k0 k1 k2 k3 : Kernel) (space root : ℕ) (m : Ma
         key = room 0 (omega arith) ∙ sym (ap (λ (domain : Domain). key_for root (at (lives k3) root).count domain.phase) here);
         count = omega (arith, ap (λ (l : Life). l.count) life);
         fits = fits;
+        marks = subst (λ (domain : Domain). HasMarks domain domain.phase) (sym here) marks-first;
       }
 
   slots-good : SlotsGood (roots k3) (room_of (fixed_rows k3)) (lives k3) (domains k3)

@@ -118,6 +118,7 @@ takes_row old new node good takes puts =
       unnamed = λ outside hand counted mine a i. nobody_in new node
           (ap (λ keys. node_places keys node) keys ∙ (puts.unnamed outside hand counted).no_place) mine a i;
       shares = λ outside hand key names_it counted. puts.counted outside hand key names_it counted;
+      pages_now = ap (λ (k : Kernel). k.page_entries) takes.state;
       rest = subst (λ (k : Kernel). KeepsRest old k) (sym takes.state) refl;
       number = ap (λ (k : Kernel). k.machine.nodes_taken) takes.state;
     }

@@ -97,7 +97,7 @@ pub record TakesFreshPage (old new : Kernel) (page : ℕ) (owner : Owner) : Type
       → Shares new outside (Page (record { 0 = page }) writable ∷ hand)
 
 -- A node was taken for a domain, and a key that names it is in hand. No tree has changed, and no row: the node's keys are
--- Null, and no row of any kind has a key that names it.
+-- Null, and no row of any kind has a key that names it. The entries of pages stay.
 pub record TakesRow (old new : Kernel) (node : ℕ) : Type 0 where
   pub high : 15 ≤ node
   pub within : node < old.nodes
@@ -110,6 +110,7 @@ pub record TakesRow (old new : Kernel) (node : ℕ) : Type 0 where
   pub unnamed : (outside : Outside) (hand : List Key) → Shares old outside hand
       → (mine : Entry NodeOwner → Bool) (other place : ℕ) → key_names_node node (rows mine new.node_entries new.keys other place) ≡ false
   pub shares : (outside : Outside) (hand : List Key) (key : Key) → key_names_node node key ≡ true → Shares old outside hand → Shares new outside (key ∷ hand)
+  pub pages_now : new.page_entries ≡ old.page_entries
   pub rest : KeepsRest old new
   pub number : new.machine.nodes_taken ≡ old.machine.nodes_taken + 1
 

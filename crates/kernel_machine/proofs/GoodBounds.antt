@@ -12,7 +12,7 @@ use Rattle.domain.specs.declared.types.Phase.TheVariants.{Zombie}
 use Rattle.domain.specs.Domains.{Domain}
 use Rattle.unix_model.specs.Tables.{at}
 use Rattle.kernel_machine.specs.Machine.{machine_of}
-use Rattle.kernel_machine.specs.Processes.{FitsPhase}
+use Rattle.domain.specs.Phases.{FitsPhase}
 use Rattle.kernel_machine.specs.Trees.{HasTree, IsRootOf, IsFileTree}
 use Rattle.kernel_machine.specs.View.{view, inodes_in, inode_in}
 use Rattle.kernel_machine.specs.Bounds as law

@@ -68,7 +68,7 @@ held-same forest before now same held =
     none-of (Some x) e = cc
 
 -- keys that name no object of a tree make no difference to those
-none-more : (outside : Outside) (key : Key) (object : Object) → raw_names object key ≡ false → bank_outside (and_outside outside key) object ≡ bank_outside outside object
+pub none-more : (outside : Outside) (key : Key) (object : Object) → raw_names object key ≡ false → bank_outside (and_outside outside key) object ≡ bank_outside outside object
 none-more outside key object e = let more = more_outside outside key object in let none : bit (raw_names object key) ≡ 0 = ap bit e in omega arith
 
 free-none : (entry : Entry NodeOwner) → is_free entry ≡ true → tree_in node_tree entry ≡ None
@@ -114,7 +114,7 @@ module _ (old new : Kernel) (outside : Outside) (slot space root : ℕ) (good : 
       let d = none-more o3 (Start (record { 0 = 1 }) slot) object (no-keeper object counted) in
       more_outside o4 (space_key space) object ∙ ap (λ n. n + bit (raw_names object (space_key space))) (d ∙ c ∙ b ∙ a) ∙ sym (more_outside outside (space_key space) object)
 
-  outside-same : (object : Object) → IsSome ((forest_of old).owner object) → outside_trees new outside object ≡ outside_trees old (and_outside outside (space_key space)) object
+  pub outside-same : (object : Object) → IsSome ((forest_of old).owner object) → outside_trees new outside object ≡ outside_trees old (and_outside outside (space_key space)) object
   unfolding outside_by
   outside-same object some =
       ap (λ (f : Object → ℕ). f object) (made.outside_now outside)

@@ -20,3 +20,4 @@ pub mod HolesLeft
 pub mod KeepLaws
 pub mod StandingLaws
 pub mod SpacesStand
+pub mod BirthStands

@@ -1,7 +1,8 @@
 -- What stands within a turn too goes along with calls on spaces.
-use Rattle.std.proofs.Common.{◌≡◌, ◌≢◌, ◌-◌, ℕ, Option, Some, None, true, false, nat_lt, List, [], refl, sym, ap, ap₂, subst, ◌∙◌, ⊎_elim}
+use Rattle.std.proofs.Math.Path.{fun_ext}
+use Rattle.std.proofs.Common.{◌↔◌, ◌≡◌, ◌≢◌, ◌-◌, ℕ, Option, Some, None, true, false, nat_lt, List, [], refl, sym, ap, ap₂, subst, ◌∙◌, ⊎_elim}
 use Rattle.std.specs.Prelude.{option_map}
-use Rattle.std.proofs.lemmas.Bool.{cases_eq, cases_Bool}
+use Rattle.std.proofs.lemmas.Bool.{cases_eq, cases_Bool, ne_eqb}
 use Rattle.kernel_tables.specs.declared.entry.Entry.{Entry}
 use Rattle.kernel_tables.specs.declared.entry.Entry.TheVariants.{Free, Taken, Fixed, Unspelled}
 use Rattle.kernel_tables.specs.declared.entry.NodeOwner.{NodeOwner}
@@ -11,13 +12,19 @@ use Rattle.kernel_tables.specs.declared.entry.PageOwner.TheVariants.{Buffer, Pip
 use Rattle.kernel_tables.specs.declared.inode.Inode.{Inode}
 use Rattle.kernel_tables.specs.declared.inode.InodeKind.{InodeKind}
 use Rattle.kernel_tables.specs.declared.inode.InodeKind.TheVariants.{File, Dir, Pipe, Console}
-use Rattle.kernel_tables.specs.Kernel.{Kernel, first_page, memory_page}
+use Rattle.kernel_tables.specs.Kernel.{Kernel, IsBankPage, first_page, memory_page}
 use Rattle.kernel_tables.specs.Rows.{domain_rows, entry_at, of_domain}
 use Rattle.space_bank.specs.Bank.{BankGood}
 use Rattle.space_bank.specs.Shares.{Outside}
-use Rattle.forest.specs.Forest.{IsSpace, NoPageOutside}
-use Rattle.forest.specs.Objects.{NodeObject, Owner, OfProcess, OfFile}
-use Rattle.forest.specs.Walks.{Mapping, map_of}
+use Rattle.forest.specs.Forest.{Forest, IsSpace, NoPageOutside}
+use Rattle.forest.specs.Objects.{PageObject, NodeObject, Owner, OfProcess, OfFile}
+use Rattle.forest.specs.Calls.{ChangesMap}
+use Rattle.forest.specs.Walks.{Mapping, map_of, key_at_page, page_way}
+use Rattle.forest.proofs.CopyLaws.{end_owned}
+use Rattle.forest.proofs.OwnLaws.{found_at, mapped_named}
+use Rattle.kernel_forest.proofs.Bridge.{page_inside}
+use Rattle.kernel_forest.proofs.Moves.{bank_page as its_page}
+use Rattle.seg_tree.specs.Promises.{Replaces}
 use Rattle.kernel_forest.specs.Apart.{KeepsApart}
 use Rattle.kernel_forest.specs.Trees.{forest_of, outside_trees, page_tree, TreesGood}
 use Rattle.kernel_forest.proofs.ApartLaws.{page_stays_apart, node_stays_apart}
@@ -28,13 +35,14 @@ use Rattle.kn_base.specs.declared.key.Key.{Key}
 use Rattle.unix_model.specs.Memory.{Memory, Page}
 use Rattle.unix_model.specs.Numbers.{pages_of}
 use Rattle.unix_model.specs.Tables.{at}
-use Rattle.user_copy.specs.SpaceMemory.{memory_by, page_of}
+use Rattle.user_copy.specs.SpaceMemory.{memory_by, page_of, space_memory}
 use Rattle.domain.specs.Domains.{Domain, domains, domain_at}
 use Rattle.domain.specs.Rules.{RowsGood}
 use Rattle.kernel_machine.specs.Contents.{pages_in}
 use Rattle.kernel_machine.specs.Held.{AllHeld, AllWhole, NodesHeld}
 use Rattle.kernel_machine.specs.Machine.{inodes_of, owner_in, page_owner_of}
 use Rattle.kernel_machine.specs.Processes.{HoldingsGood}
+use Rattle.kernel_machine.proofs.MemoryLaws.{made-same}
 use Rattle.kernel_machine.specs.Standing as law
 use Rattle.kernel_machine.specs.Standing.{LeavesSpaces, Standing, page_owners}
 use Rattle.kernel_machine.specs.Trees.{HasTree, IsFileTree, IsRootOf, RootsGood, KeepersGood, ends_in_zeros}
@@ -47,7 +55,7 @@ owner-taken (Taken held count) owner e = (count, (let same : held ≡ owner = cc
 owner-taken Fixed owner e = cc
 owner-taken Unspelled owner e = cc
 
-domain-taken : (entry : Entry NodeOwner) → of_domain entry ≡ true → (count : ℕ) × (entry ≡ Taken DomainNode count)
+pub domain-taken : (entry : Entry NodeOwner) → of_domain entry ≡ true → (count : ℕ) × (entry ≡ Taken DomainNode count)
 domain-taken (Free next) mine = cc
 domain-taken (Taken DomainNode count) mine = (count, refl)
 domain-taken (Taken Tree count) mine = cc
@@ -56,7 +64,7 @@ domain-taken Fixed mine = cc
 domain-taken Unspelled mine = cc
 
 -- a page of such an owner keeps it, and none comes to have it
-owner-kept : (old new : Kernel) (page : ℕ) (owner : PageOwner) → new.size ≡ old.size → KeepsApart old new → page_tree owner ≡ None → at (page_owners old) page ≡ Some owner → at (page_owners new) page ≡ Some owner
+pub owner-kept : (old new : Kernel) (page : ℕ) (owner : PageOwner) → new.size ≡ old.size → KeepsApart old new → page_tree owner ≡ None → at (page_owners old) page ≡ Some owner → at (page_owners new) page ≡ Some owner
 unfolding page_owner_of at
 owner-kept old new page owner size same none owned = ⊎_elim
     (λ (t : nat_lt page (first_page old.size) ≡ true). let no : None ≡ Some owner = rw t at owned in cc)
@@ -182,7 +190,7 @@ mapped-from b1 b2 (Some was) m2 e mapping is =
     let same : page_of b2 mapping ≡ page_of b1 was = cc in
     (was, refl, ap (λ (page : Page). page.writable) same)
 
-tree-by-memory : (k1 k2 : ℕ → Key) (b1 b2 : ℕ → List ℕ) (root size : ℕ) → memory_by b2 (map_of k2 root) ≡ memory_by b1 (map_of k1 root) → IsFileTree k1 b1 root size → IsFileTree k2 b2 root size
+pub tree-by-memory : (k1 k2 : ℕ → Key) (b1 b2 : ℕ → List ℕ) (root size : ℕ) → memory_by b2 (map_of k2 root) ≡ memory_by b1 (map_of k1 root) → IsFileTree k1 b1 root size → IsFileTree k2 b2 root size
 unfolding memory_by
 tree-by-memory k1 k2 b1 b2 root size e tree =
     let here = λ (page : ℕ). ap (λ (memory : Memory). memory page) e in
@@ -198,17 +206,20 @@ tree-by-memory k1 k2 b1 b2 root size e tree =
 
 -- ---- calls
 
+spaces-same : (old new : Forest) (space : ℕ) (map : ℕ → Option Mapping) → ChangesMap old new space map → (other : ℕ) → IsSpace old [] other ↔ IsSpace new [] other
+spaces-same old new space map changes other = (
+  λ is. ⊎_elim
+      (λ (t : other ≡ space). subst (λ n. IsSpace new [] n) (sym t) changes.stays)
+      (λ (d : other ≢ space). changes.others.stay other is d)
+      (cases_eq other space),
+  λ is. (changes.roots other is).was,
+)
+
 pub remap_leaves : law.RemapLeaves
 remap_leaves old new space few map outside trees remaps =
     let changes = (remaps.changes outside trees).1 in
     record {
-      spaces = λ other. (
-        λ is. ⊎_elim
-            (λ (t : other ≡ space). subst (λ n. IsSpace (forest_of new) [] n) (sym t) changes.stays)
-            (λ (d : other ≢ space). changes.others.stay other is d)
-            (cases_eq other space),
-        λ is. (changes.roots other is).was,
-      );
+      spaces = spaces-same (forest_of old) (forest_of new) space map changes;
       roots = changes.roots;
       memories = λ other is d. ap₂ memory_by (ap memory_page remaps.rest) (changes.others.maps other is d);
       trees = λ all good. (remaps.changes all good).0;
@@ -217,6 +228,46 @@ remap_leaves old new space few map outside trees remaps =
       rows_now = remaps.rows_now;
       apart_now = remaps.apart_now;
       rest = unreleased old new remaps.rest;
+    }
+
+-- a call that may give a page back: what other spaces map isn't given back, so it has the bytes that it had
+module _ (old new : Kernel) (space few : ℕ) (map : ℕ → Option Mapping) (outside : Outside) (trees : TreesGood old outside []) (good : BankGood new) (replaces : Replaces old new space few map) where
+  after : TreesGood new outside [] × ChangesMap (forest_of old) (forest_of new) space map
+  after = replaces.changes outside trees
+
+  bytes-kept : (other number : ℕ) (mapping : Mapping) → IsSpace (forest_of old) [] other → other ≢ space → map_of (forest_of old).keys other number ≡ Some mapping
+      → memory_page new mapping.page ≡ memory_page old mapping.page
+  bytes-kept other number mapping is differs mapped = ⊎_elim
+      (λ (t : mapping.page ≡ 0). rw t (ap (λ (k : Kernel). k.page_zero) replaces.rest))
+      (λ (real : mapping.page ≢ 0).
+      let now = ap (λ (table : ℕ → Option Mapping). table number) (after.1.others.maps other is differs) ∙ mapped in
+      let found = found_at (forest_of new).keys other number mapping now in
+      let named_it = mapped_named (key_at_page (forest_of new).keys other number) mapping found.maps real in
+      let some = end_owned (forest_of new) [] after.0.held.sound other (after.1.others.stay other is differs) (page_way number) (PageObject mapping.page) named_it in
+      let inside = subst (λ size. IsBankPage size mapping.page) (ap (λ (k : Kernel). k.size) replaces.rest) (its_page new mapping.page (page_inside new mapping.page good some)) in
+      rw (ne_eqb mapping.page 0 real) (replaces.bytes mapping.page inside (λ was. some)))
+      (cases_eq mapping.page 0)
+
+  memory-kept : (other : ℕ) → IsSpace (forest_of old) [] other → other ≢ space → space_memory new other ≡ space_memory old other
+  unfolding memory_by
+  memory-kept other is differs =
+      ap (memory_by (memory_page new)) (after.1.others.maps other is differs)
+      ∙ fun_ext (λ number. made-same (page_of (memory_page new)) (page_of (memory_page old)) (map_of (forest_of old).keys other number)
+      (λ mapping mapped. ap (λ content. let page : Page = record { writable = mapping.writable; bytes = content } in page) (bytes-kept other number mapping is differs mapped)))
+
+pub replace_leaves : law.ReplaceLeaves
+replace_leaves old new space few map outside trees good replaces =
+    let changes = (replaces.changes outside trees).1 in
+    record {
+      spaces = spaces-same (forest_of old) (forest_of new) space map changes;
+      roots = changes.roots;
+      memories = memory-kept old new space few map outside trees good replaces;
+      trees = λ all held. (replaces.changes all held).0;
+      inside = λ all held. replaces.inside all;
+      filled = replaces.filled;
+      rows_now = replaces.rows_now;
+      apart_now = replaces.apart_now;
+      rest = replaces.rest;
     }
 
 pub put_leaves : law.PutLeaves

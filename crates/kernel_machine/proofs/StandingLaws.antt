@@ -120,22 +120,22 @@ good_is_both calls kernel = (apart calls kernel, together calls kernel)
 
 -- ---- tables that are these
 
-holdings-to : {d1 d2 : ℕ → Domain} {f1 f2 : Forest} {o1 o2 : ℕ → Option PageOwner} → d2 ≡ d1 → f2 ≡ f1 → o2 ≡ o1 → HoldingsGood d1 f1 o1 → HoldingsGood d2 f2 o2
+pub holdings-to : {d1 d2 : ℕ → Domain} {f1 f2 : Forest} {o1 o2 : ℕ → Option PageOwner} → d2 ≡ d1 → f2 ≡ f1 → o2 ≡ o1 → HoldingsGood d1 f1 o1 → HoldingsGood d2 f2 o2
 holdings-to d f o good = rw (d, f, o) good
 
-roots-to : {f1 f2 : Forest} {b1 b2 : ℕ → List ℕ} {o1 o2 : ℕ → Option PageOwner} {i1 i2 : ℕ → Option Inode} → f2 ≡ f1 → b2 ≡ b1 → o2 ≡ o1 → i2 ≡ i1 → RootsGood f1 b1 o1 i1 → RootsGood f2 b2 o2 i2
+pub roots-to : {f1 f2 : Forest} {b1 b2 : ℕ → List ℕ} {o1 o2 : ℕ → Option PageOwner} {i1 i2 : ℕ → Option Inode} → f2 ≡ f1 → b2 ≡ b1 → o2 ≡ o1 → i2 ≡ i1 → RootsGood f1 b1 o1 i1 → RootsGood f2 b2 o2 i2
 roots-to f b o i good = rw (f, b, o, i) good
 
-held-to : {d1 d2 : ℕ → Domain} {f1 f2 : Forest} {o1 o2 : ℕ → Option PageOwner} {i1 i2 : ℕ → Option Inode} → d2 ≡ d1 → f2 ≡ f1 → o2 ≡ o1 → i2 ≡ i1 → AllHeld d1 f1 o1 i1 → AllHeld d2 f2 o2 i2
+pub held-to : {d1 d2 : ℕ → Domain} {f1 f2 : Forest} {o1 o2 : ℕ → Option PageOwner} {i1 i2 : ℕ → Option Inode} → d2 ≡ d1 → f2 ≡ f1 → o2 ≡ o1 → i2 ≡ i1 → AllHeld d1 f1 o1 i1 → AllHeld d2 f2 o2 i2
 held-to d f o i held = rw (d, f, o, i) held
 
-filled-to : {f1 f2 : Forest} → f2 ≡ f1 → NoneEmpty f1.keys → NoneEmpty f2.keys
+pub filled-to : {f1 f2 : Forest} → f2 ≡ f1 → NoneEmpty f1.keys → NoneEmpty f2.keys
 filled-to f filled = subst (λ (forest : Forest). NoneEmpty forest.keys) (sym f) filled
 
-keepers-to : {f1 f2 : Forest} → f2 ≡ f1 → KeepersGood f1 → KeepersGood f2
+pub keepers-to : {f1 f2 : Forest} → f2 ≡ f1 → KeepersGood f1 → KeepersGood f2
 keepers-to f good = rw f good
 
-inside-to : {f1 f2 : Forest} {o1 o2 : Object → ℕ} → f2 ≡ f1 → o2 ≡ o1 → NoPageOutside f1 o1 → NoPageOutside f2 o2
+pub inside-to : {f1 f2 : Forest} {o1 o2 : Object → ℕ} → f2 ≡ f1 → o2 ≡ o1 → NoPageOutside f1 o1 → NoPageOutside f2 o2
 inside-to {f1} {f2} {o1} {o2} f o inside = subst (λ (forest : Forest). NoPageOutside forest o2) (sym f) (subst (λ (out : Object → ℕ). NoPageOutside f1 out) (sym o) inside)
 
 -- ---- numbers in a domain
@@ -153,24 +153,23 @@ holdings-with domains forest owner root domain space buffer good =
       buffers_differ = λ r other page has also. good.buffers_differ r other page (sym (of_buffer r) ∙ has) (sym (of_buffer other) ∙ also);
     }
 
-meter-live : (rows : ℕ → ℕ → Key) (root : ℕ) → is_meter (rows root 2) ≡ true → (at (domain_at rows) root).live ≡ true
+pub meter-live : (rows : ℕ → ℕ → Key) (root : ℕ) → is_meter (rows root 2) ≡ true → (at (domain_at rows) root).live ≡ true
 unfolding domain_at full_domain at
 meter-live rows root meter = rw meter refl
 
--- nodes of domains, where each root is one as before and has the nodes that it had
-module _ (old new : ℕ → ℕ → Key) (live : (root : ℕ) → (at (domain_at new) root).live ≡ (at (domain_at old) root).live)
-    (regs : (root : ℕ) → (at (domain_at new) root).regs_node ≡ (at (domain_at old) root).regs_node)
-    (descriptors : (root : ℕ) → (at (domain_at new) root).descriptors_node ≡ (at (domain_at old) root).descriptors_node) where
-  is-node : (root node : ℕ) → IsNodeOf old root node → IsNodeOf new root node
-  is-node root node is =
-      let was = meter-live old root is.0 in
-      let now = live root ∙ was in
-      let third = sym (root_regs_node new root now) ∙ regs root ∙ root_regs_node old root was in
-      let fourth = sym (root_descriptors_node new root now) ∙ descriptors root ∙ root_descriptors_node old root was in (
-        live_meter new root now,
-        ⊎_elim (λ (t : root ≡ node). inl t)
-            (λ (t : (node_in (old root 3) ≡ Some node) ⊎ (node_in (old root 4) ≡ Some node)). inr (⊎_elim (λ (u : node_in (old root 3) ≡ Some node). inl (third ∙ u)) (λ (u : node_in (old root 4) ≡ Some node). inr (fourth ∙ u)) t)) is.1,
-      )
+-- a node of a domain, where its root is one as before and has the nodes that it had
+pub is-node : (old new : ℕ → ℕ → Key) (root node : ℕ) → (at (domain_at new) root).live ≡ (at (domain_at old) root).live
+    → (at (domain_at new) root).regs_node ≡ (at (domain_at old) root).regs_node → (at (domain_at new) root).descriptors_node ≡ (at (domain_at old) root).descriptors_node
+    → IsNodeOf old root node → IsNodeOf new root node
+is-node old new root node live regs descriptors is =
+    let was = meter-live old root is.0 in
+    let now = live ∙ was in
+    let third = sym (root_regs_node new root now) ∙ regs ∙ root_regs_node old root was in
+    let fourth = sym (root_descriptors_node new root now) ∙ descriptors ∙ root_descriptors_node old root was in (
+      live_meter new root now,
+      ⊎_elim (λ (t : root ≡ node). inl t)
+          (λ (t : (node_in (old root 3) ≡ Some node) ⊎ (node_in (old root 4) ≡ Some node)). inr (⊎_elim (λ (u : node_in (old root 3) ≡ Some node). inl (third ∙ u)) (λ (u : node_in (old root 4) ≡ Some node). inr (fourth ∙ u)) t)) is.1,
+    )
 
 module _ (old new : Kernel) (writes : WritesNumbers old new) (bank : BankGood new) (rows : RowsGood (domain_rows new)) (standing : Standing old)
     (nodes : (root node : ℕ) → IsNodeOf (domain_rows old) root node → IsNodeOf (domain_rows new) root node)
@@ -212,16 +211,16 @@ held_domain old root domain same held = held_with_domain (machine_of old) root d
 pub standing_with_numbers : law.StandingWithNumbers
 standing_with_numbers old new root domain writes now same bank rows standing =
     with-numbers old new writes bank rows standing
-    (is-node (domain_rows old) (domain_rows new) (stay old new root domain now (λ d. d.live) same.live) (stay old new root domain now (λ d. d.regs_node) same.regs_node)
-    (stay old new root domain now (λ d. d.descriptors_node) same.descriptors_node))
+    (λ r node. is-node (domain_rows old) (domain_rows new) r node (stay old new root domain now (λ d. d.live) same.live r)
+    (stay old new root domain now (λ d. d.regs_node) same.regs_node r) (stay old new root domain now (λ d. d.descriptors_node) same.descriptors_node r))
     (holdings-to now refl refl (holdings-with (domains old) (forest_of old) (page_owners old) root domain same.space same.buffer standing.holdings))
     (held-to now refl refl refl (held_domain old root domain same standing.held))
 
 pub standing_with_life : law.StandingWithLife
 standing_with_life old new writes now bank rows standing =
     with-numbers old new writes bank rows standing
-    (is-node (domain_rows old) (domain_rows new) (λ other. ap (λ (table : ℕ → Domain). (at table other).live) now) (λ other. ap (λ (table : ℕ → Domain). (at table other).regs_node) now)
-    (λ other. ap (λ (table : ℕ → Domain). (at table other).descriptors_node) now))
+    (λ r node. is-node (domain_rows old) (domain_rows new) r node (ap (λ (table : ℕ → Domain). (at table r).live) now)
+    (ap (λ (table : ℕ → Domain). (at table r).regs_node) now) (ap (λ (table : ℕ → Domain). (at table r).descriptors_node) now))
     (holdings-to now refl refl standing.holdings) (held-to now refl refl refl standing.held)
 
 -- ---- rows of files
@@ -486,6 +485,7 @@ in-slot-same room1 room2 lives1 lives2 domains1 domains2 slot root r l d is =
       key = rw (r, l, d) is.key;
       count = rw l is.count;
       fits = rw d is.fits;
+      marks = rw d is.marks;
     }
 
 pub slots_changed : law.SlotsChanged

@@ -21,10 +21,11 @@ use Rattle.kernel_forest.specs.Releases.{KeepsUnreleased}
 use Rattle.kernel_forest.specs.Trees.{forest_of, outside_trees, page_tree, TreesGood}
 use Rattle.file_tables.specs.Roots.{named_by, ExchangesRoots}
 use Rattle.file_tables.specs.Rows.{InodesGood, DescriptionsGood}
-use Rattle.seg_tree.specs.Promises.{Remaps}
+use Rattle.seg_tree.specs.Promises.{Adds, Remaps, Replaces}
 use Rattle.user_copy.specs.SpaceMemory.{space_memory}
 use Rattle.user_copy.specs.Writing.{PutsBytes}
 use Rattle.domain.specs.Domains.{Domain, Life, domains}
+use Rattle.domain.specs.Life.{MakesDomain}
 use Rattle.domain.specs.Rules.{RowsGood}
 use Rattle.domain.specs.Sets.{WritesNumbers}
 use Rattle.unix_model.specs.Calls.{Calls}
@@ -36,7 +37,7 @@ use Rattle.kernel_machine.specs.Good.{Good, ParkedGood}
 use Rattle.kernel_machine.specs.Held.{AllHeld, AllWhole, NodesHeld}
 use Rattle.kernel_machine.specs.Machine.{machine_of, inodes_of, page_owner_of}
 use Rattle.kernel_machine.specs.Processes.{SlotsGood, IsInSlot, HoldingsGood}
-use Rattle.kernel_machine.specs.Trees.{HasTree, IsFileTree, IsRootOf, RootsGood, KeepersGood}
+use Rattle.kernel_machine.specs.Trees.{HasTree, IsFileTree, IsRootOf, RootsGood, KeepersGood, keeper}
 use Rattle.kernel_machine.specs.View.{view, processes_in, inodes_in, descriptions_in}
 
 -- who owns each page
@@ -145,6 +146,12 @@ RemapLeaves =
     (old new : Kernel) (space few : ℕ) (map : ℕ → Option Mapping) (outside : Outside)
     → TreesGood old outside [] → Remaps old new space few map → LeavesSpaces old new space
 
+-- the one that may give a page back, ..
+abbrev pub ReplaceLeaves : Type 0
+ReplaceLeaves =
+    (old new : Kernel) (space few : ℕ) (map : ℕ → Option Mapping) (outside : Outside)
+    → TreesGood old outside [] → BankGood new → Replaces old new space few map → LeavesSpaces old new space
+
 -- .. and the one that puts bytes.
 abbrev pub PutLeaves : Type 0
 PutLeaves = (old new : Kernel) (space at : ℕ) (bytes : List ℕ) → PutsBytes old new space at bytes → LeavesSpaces old new space
@@ -163,6 +170,15 @@ StandingWithTree =
     → LeavesSpaces old new space → at (inodes_of old) number ≡ Some inode → HasTree inode.kind → inode.root ≡ space
     → IsFileTree (forest_of new).keys (memory_page new) space inode.length
     → BankGood new → AllWhole new.bank → Standing old → Standing new
+
+-- ---- birth
+
+-- A space of a process was added, and a domain made whose space it is.
+abbrev pub StandingWithBirth : Type 0
+StandingWithBirth =
+    (old mid new : Kernel) (slot space root : ℕ) (map : ℕ → Option Mapping)
+    → Adds old mid space (Some OfProcess) keeper map → MakesDomain mid new slot space root
+    → BankGood mid → BankGood new → RowsGood (domain_rows new) → AllWhole new.bank → Standing old → Standing new
 
 -- ---- slots
 

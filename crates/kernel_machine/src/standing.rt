@@ -1,6 +1,6 @@
 //! Laws of what stands within a turn too, and of what is settled between turns.
 
-ghost use Rattle.kernel_machine.specs.Standing.{GoodIsBoth, PutLeaves, RemapLeaves, SlotsChanged, StandingWithBytes, StandingWithDescription, StandingWithInode, StandingWithLife, StandingWithMemory, StandingWithNumbers, StandingWithTree, StandingWithWords};
+ghost use Rattle.kernel_machine.specs.Standing.{GoodIsBoth, PutLeaves, RemapLeaves, ReplaceLeaves, SlotsChanged, StandingWithBirth, StandingWithBytes, StandingWithDescription, StandingWithInode, StandingWithLife, StandingWithMemory, StandingWithNumbers, StandingWithTree, StandingWithWords};
 
 /// What stands, and what is settled, is all that holds between turns.
 pub fn good_is_both()
@@ -42,6 +42,11 @@ pub fn remap_leaves()
     ensures { RemapLeaves }
 {}
 
+/// So does the call that takes a page out of a map, which may give it back.
+pub fn replace_leaves()
+    ensures { ReplaceLeaves }
+{}
+
 /// So does the call that puts bytes into a space.
 pub fn put_leaves()
     ensures { PutLeaves }
@@ -55,6 +60,11 @@ pub fn standing_with_memory()
 /// The tree of a file is another one, and all other spaces are left.
 pub fn standing_with_tree()
     ensures { StandingWithTree }
+{}
+
+/// A process is born: a space is added, and a domain made whose space it is.
+pub fn standing_with_birth()
+    ensures { StandingWithBirth }
 {}
 
 /// The domain in a slot is another one, and its life and its key fit.
