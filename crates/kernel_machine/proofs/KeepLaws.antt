@@ -31,7 +31,7 @@ use Rattle.kernel_machine.specs.Keeps as law
 
 -- ---- trees
 
-trees-in : (old new : Forest) → new ≡ old → ((place : ℕ) → IsTreeKey (at old.keys place)) → (place : ℕ) → IsTreeKey (at new.keys place)
+pub trees-in : (old new : Forest) → new ≡ old → ((place : ℕ) → IsTreeKey (at old.keys place)) → (place : ℕ) → IsTreeKey (at new.keys place)
 trees-in old new e trees = subst (λ (forest : Forest). (place : ℕ) → IsTreeKey (at forest.keys place)) (sym e) trees
 
 pub trees_with_numbers : law.TreesWithNumbers
@@ -47,7 +47,7 @@ trees_with_numbers old new outside hand writes good =
     }
 
 -- what names from outside the objects that belong to trees is all that matters
-held-same : (forest : Forest) (before now : Object → ℕ) → ((object : Object) → IsSome (forest.owner object) → now object ≡ before object) → Held forest before [] → Held forest now []
+pub held-same : (forest : Forest) (before now : Object → ℕ) → ((object : Object) → IsSome (forest.owner object) → now object ≡ before object) → Held forest before [] → Held forest now []
 held-same forest before now same held =
     record {
       counts = record {
@@ -77,16 +77,17 @@ free-none (Taken owner count) free = cc
 free-none Fixed free = refl
 free-none Unspelled free = refl
 
+pub free-unowned : (kernel : Kernel) (node : ℕ) → is_free (entry_at kernel.node_entries node) ≡ true → (forest_of kernel).owner (NodeObject node) ≡ None
+unfolding owner_of
+free-unowned kernel node free = free-none (entry_at kernel.node_entries node) free
+
+-- what belongs to a tree is another node
+pub other-node : (forest : Forest) (object : Object) (node : ℕ) → IsSome (forest.owner object) → forest.owner (NodeObject node) ≡ None → raw_names object (Node (record { 0 = node })) ≡ false
+other-node forest (PageObject page) node some none = refl
+other-node forest (NodeObject other) node some none = ne_eqb node other (λ same.
+    let no : true ≡ false = sym some ∙ ap (λ n. is_some (forest.owner (NodeObject n))) (sym same) ∙ ap is_some none in cc)
+
 module _ (old new : Kernel) (outside : Outside) (slot space root : ℕ) (good : BankGood old) (made : MakesDomain old new slot space root) where
-  free-unowned : (node : ℕ) → is_free (entry_at old.node_entries node) ≡ true → (forest_of old).owner (NodeObject node) ≡ None
-  unfolding owner_of
-  free-unowned node free = free-none (entry_at old.node_entries node) free
-
-  apart : (object : Object) (node : ℕ) → IsSome ((forest_of old).owner object) → (forest_of old).owner (NodeObject node) ≡ None → raw_names object (Node (record { 0 = node })) ≡ false
-  apart (PageObject page) node some none = refl
-  apart (NodeObject other) node some none = ne_eqb node other (λ same.
-      let no : true ≡ false = sym some ∙ ap (λ n. is_some ((forest_of old).owner (NodeObject n))) (sym same) ∙ ap is_some none in cc)
-
   as-domain : (object : Object) (node : ℕ) → raw_names object (DomainKey (record { 0 = node })) ≡ raw_names object (Node (record { 0 = node }))
   as-domain (PageObject page) node = refl
   as-domain (NodeObject other) node = refl
@@ -101,16 +102,16 @@ module _ (old new : Kernel) (outside : Outside) (slot space root : ℕ) (good : 
   bank-same : (object : Object) → IsSome ((forest_of old).owner object) → is_counted object ≡ true → bank_outside all object ≡ bank_outside (and_outside outside (space_key space)) object
   unfolding and_all
   bank-same object some counted =
-      let regs : (forest_of old).owner (NodeObject made.regs) ≡ None = free-unowned made.regs (made.free made.regs (inl refl)) in
-      let descriptors : (forest_of old).owner (NodeObject made.descriptors) ≡ None = free-unowned made.descriptors (made.free made.descriptors (inr (inl refl))) in
-      let rooted : (forest_of old).owner (NodeObject root) ≡ None = free-unowned root (made.free root (inr (inr refl))) in
+      let regs : (forest_of old).owner (NodeObject made.regs) ≡ None = free-unowned old made.regs (made.free made.regs (inl refl)) in
+      let descriptors : (forest_of old).owner (NodeObject made.descriptors) ≡ None = free-unowned old made.descriptors (made.free made.descriptors (inr (inl refl))) in
+      let rooted : (forest_of old).owner (NodeObject root) ≡ None = free-unowned old root (made.free root (inr (inr refl))) in
       let o1 : Outside = and_outside outside (DomainKey (record { 0 = root })) in
       let o2 : Outside = and_outside o1 (Node (record { 0 = made.descriptors })) in
       let o3 : Outside = and_outside o2 (Node (record { 0 = made.regs })) in
       let o4 : Outside = and_outside o3 (Start (record { 0 = 1 }) slot) in
-      let a = none-more outside (DomainKey (record { 0 = root })) object (as-domain object root ∙ apart object root some rooted) in
-      let b = none-more o1 (Node (record { 0 = made.descriptors })) object (apart object made.descriptors some descriptors) in
-      let c = none-more o2 (Node (record { 0 = made.regs })) object (apart object made.regs some regs) in
+      let a = none-more outside (DomainKey (record { 0 = root })) object (as-domain object root ∙ other-node (forest_of old) object root some rooted) in
+      let b = none-more o1 (Node (record { 0 = made.descriptors })) object (other-node (forest_of old) object made.descriptors some descriptors) in
+      let c = none-more o2 (Node (record { 0 = made.regs })) object (other-node (forest_of old) object made.regs some regs) in
       let d = none-more o3 (Start (record { 0 = 1 }) slot) object (no-keeper object counted) in
       more_outside o4 (space_key space) object ∙ ap (λ n. n + bit (raw_names object (space_key space))) (d ∙ c ∙ b ∙ a) ∙ sym (more_outside outside (space_key space) object)
 

@@ -21,3 +21,4 @@ pub mod KeepLaws
 pub mod StandingLaws
 pub mod SpacesStand
 pub mod BirthStands
+pub mod EndStands

@@ -141,7 +141,7 @@ inside-to {f1} {f2} {o1} {o2} f o inside = subst (λ (forest : Forest). NoPageOu
 -- ---- numbers in a domain
 
 -- holdings, with a domain that keeps its space and its buffer
-holdings-with : (domains : ℕ → Domain) (forest : Forest) (owner : ℕ → Option PageOwner) (root : ℕ) (domain : Domain) → domain.space ≡ (at domains root).space → domain.buffer ≡ (at domains root).buffer
+pub holdings-with : (domains : ℕ → Domain) (forest : Forest) (owner : ℕ → Option PageOwner) (root : ℕ) (domain : Domain) → domain.space ≡ (at domains root).space → domain.buffer ≡ (at domains root).buffer
     → HoldingsGood domains forest owner → HoldingsGood (with_at domains root domain) forest owner
 holdings-with domains forest owner root domain space buffer good =
     let of_space = stays domains root domain (λ d. d.space) space in

@@ -1,6 +1,6 @@
 -- What holds also within a turn, while states, counts and the flat state don't agree yet, and what agrees between turns; and how
 -- single calls keep what stands, each law as one statement.
-use Rattle.std.specs.Prelude.{◌≡◌, ◌≢◌, ◌↔◌, ◌<◌, ℕ, Option, Some, None, List, [], length, slice_set}
+use Rattle.std.specs.Prelude.{◌≡◌, ◌≢◌, ◌↔◌, ◌<◌, ℕ, true, Option, Some, None, List, [], length, slice_set}
 use Rattle.kn_base.specs.declared.key.Key.{Key}
 use Rattle.kernel_tables.specs.declared.description.Description.{Description}
 use Rattle.kernel_tables.specs.declared.entry.PageOwner.{PageOwner}
@@ -25,6 +25,7 @@ use Rattle.seg_tree.specs.Promises.{Adds, Remaps, Replaces}
 use Rattle.user_copy.specs.SpaceMemory.{space_memory}
 use Rattle.user_copy.specs.Writing.{PutsBytes}
 use Rattle.domain.specs.Domains.{Domain, Life, domains}
+use Rattle.domain.specs.Ends.{MakesZombie}
 use Rattle.domain.specs.Life.{MakesDomain}
 use Rattle.domain.specs.Rules.{RowsGood}
 use Rattle.domain.specs.Sets.{WritesNumbers}
@@ -171,7 +172,7 @@ StandingWithTree =
     → IsFileTree (forest_of new).keys (memory_page new) space inode.length
     → BankGood new → AllWhole new.bank → Standing old → Standing new
 
--- ---- birth
+-- ---- birth and end
 
 -- A space of a process was added, and a domain made whose space it is.
 abbrev pub StandingWithBirth : Type 0
@@ -179,6 +180,12 @@ StandingWithBirth =
     (old mid new : Kernel) (slot space root : ℕ) (map : ℕ → Option Mapping)
     → Adds old mid space (Some OfProcess) keeper map → MakesDomain mid new slot space root
     → BankGood mid → BankGood new → RowsGood (domain_rows new) → AllWhole new.bank → Standing old → Standing new
+
+-- A domain became a zombie.
+abbrev pub StandingWithEnd : Type 0
+StandingWithEnd =
+    (old new : Kernel) (root : ℕ) → MakesZombie old new root → (at (domains old) root).live ≡ true
+    → BankGood new → RowsGood (domain_rows new) → Standing old → Standing new
 
 -- ---- slots
 

@@ -21,8 +21,9 @@ pub use changes::{
 pub use keeps::{fixed_with_birth, fixed_with_rows, trees_with_birth, trees_with_numbers};
 pub use standing::{
     good_is_both, put_leaves, remap_leaves, replace_leaves, slots_changed, standing_with_birth,
-    standing_with_bytes, standing_with_description, standing_with_inode, standing_with_life,
-    standing_with_memory, standing_with_numbers, standing_with_tree, standing_with_words,
+    standing_with_bytes, standing_with_description, standing_with_end, standing_with_inode,
+    standing_with_life, standing_with_memory, standing_with_numbers, standing_with_tree,
+    standing_with_words,
 };
 pub use views::{
     description_changed, description_freed, domain_born, domain_changed, domain_gone,

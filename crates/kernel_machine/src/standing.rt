@@ -1,6 +1,6 @@
 //! Laws of what stands within a turn too, and of what is settled between turns.
 
-ghost use Rattle.kernel_machine.specs.Standing.{GoodIsBoth, PutLeaves, RemapLeaves, ReplaceLeaves, SlotsChanged, StandingWithBirth, StandingWithBytes, StandingWithDescription, StandingWithInode, StandingWithLife, StandingWithMemory, StandingWithNumbers, StandingWithTree, StandingWithWords};
+ghost use Rattle.kernel_machine.specs.Standing.{GoodIsBoth, PutLeaves, RemapLeaves, ReplaceLeaves, SlotsChanged, StandingWithBirth, StandingWithBytes, StandingWithDescription, StandingWithEnd, StandingWithInode, StandingWithLife, StandingWithMemory, StandingWithNumbers, StandingWithTree, StandingWithWords};
 
 /// What stands, and what is settled, is all that holds between turns.
 pub fn good_is_both()
@@ -65,6 +65,11 @@ pub fn standing_with_tree()
 /// A process is born: a space is added, and a domain made whose space it is.
 pub fn standing_with_birth()
     ensures { StandingWithBirth }
+{}
+
+/// A domain becomes a zombie.
+pub fn standing_with_end()
+    ensures { StandingWithEnd }
 {}
 
 /// The domain in a slot is another one, and its life and its key fit.
