@@ -1,0 +1,5 @@
+mod ResumeLaws
+mod Seating
+mod Composing
+mod Reaching
+mod Seated

@@ -1,0 +1,5 @@
+-- in reading order
+pub mod Steps
+pub mod Laws
+pub mod Room
+pub mod Invokes
