@@ -17,7 +17,7 @@ use Rattle.unix_model.specs.Paths.{file_at, inode_at, is_dots, walked, walked_in
 use Rattle.unix_model.specs.Tables.{at, with_at}
 use Rattle.unix_model.specs.Refusals.{◌>>◌, ◌>>=◌}
 use Rattle.unix_model.specs.State.{Unix}
-use Rattle.keynix.specs.Words.{Setup}
+use Rattle.command_line.specs.Words.{Setup}
 use Rattle.unix_model.proofs.BootLaws.{booted-long, init-found, init-walked, init_spot}
 use Rattle.keynix.specs.declared.ending.Ending.{Ending}
 use Rattle.keynix.specs.declared.ending.Ending.TheVariants as ending

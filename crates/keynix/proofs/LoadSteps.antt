@@ -11,7 +11,7 @@ use Rattle.keynix.specs.Endings.{IsCaused, IsSpent}
 use Rattle.keynix.specs.Loads.{BootsLoad, EndsLoad, EndsWork, RefusesLoad, StopsLoad, SumsUp, SumsUpPart, load_run}
 use Rattle.keynix.specs.Promises.{LoadTold, stop_status}
 use Rattle.keynix.specs.Telling.{Tells, PutsNote, ending_note, ending_status, idle_note, refusal_note}
-use Rattle.keynix.specs.Words.{Load, default_setup}
+use Rattle.command_line.specs.Words.{Load, default_setup}
 use Rattle.keynix.proofs.BootSteps.{one-boot}
 use Rattle.keynix.proofs.StatusSteps.{spent-status, status-by, status-is}
 

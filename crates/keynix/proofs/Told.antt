@@ -4,7 +4,7 @@ use Rattle.kn_io.specs.Sink.{GrewByPrefix}
 use Rattle.unix_model.specs.Machine as machine
 use Rattle.unix_model.specs.Notes.{spent_note}
 use Rattle.unix_model.specs.Schedule.{Schedule}
-use Rattle.keynix.specs.Words.{Command, Load, Once, Work, Asm, Setup}
+use Rattle.command_line.specs.Words.{Command, Load, Once, Work, Asm, Setup}
 use Rattle.rv_asm.specs.Programs as asm
 use Rattle.keynix.specs.declared.ending.Ending.{Ending}
 use Rattle.keynix.specs.declared.ending.Ending.TheVariants.{Halted, TurnsSpent, Idle, Done, Usage, Refused, NotAssembled, BadPlan, ReadFault, WriteFault, NoMemory}

@@ -24,7 +24,7 @@ use Rattle.keynix.specs.Endings.{Ends, EndsOn, IsCaused, IsUnread}
 use Rattle.keynix.specs.Counts.{CountsStay}
 use Rattle.keynix.specs.Inputs.{IsBoot, IsBootWhere}
 use Rattle.keynix.specs.Loads.{BootsLoad, EndsWork, PutsSummary, load_run, load_summary}
-use Rattle.keynix.specs.Words.{Load, Setup, default_pages, default_quantum, default_setup, default_turns}
+use Rattle.command_line.specs.Words.{Load, Setup, default_pages, default_quantum, default_setup, default_turns}
 
 -- ---- what a run of the load puts
 

@@ -18,7 +18,7 @@ use Rattle.keynix.specs.declared.schedule.Schedule as own
 use Rattle.keynix.specs.Schedules.{schedule_of}
 use Rattle.flat_bundle.specs.Booting.{Booted, Refusal}
 use Rattle.keynix.specs.Inputs.{IsBoot, refusal_of}
-use Rattle.keynix.specs.Words.{Plan, Round, Given, Setup}
+use Rattle.command_line.specs.Words.{Plan, Round, Given, Setup}
 
 -- the schedule that a plan's spans give
 abbrev pub given_by : Result (List Span) ℕ → Result schedules.Schedule ℕ

@@ -14,7 +14,7 @@ use Rattle.keynix.specs.declared.ending.Ending.{Ending}
 use Rattle.keynix.specs.declared.ending.Ending.TheVariants.{Halted, TurnsSpent, Idle, Done, Usage, Refused, NotAssembled, BadPlan, ReadFault, WriteFault, NoMemory}
 use Rattle.keynix.specs.declared.ending.Refusal as own
 use Rattle.keynix.specs.declared.ending.Refusal.TheVariants.{At, NoRoom, Elf}
-use Rattle.keynix.specs.Words.{Setup}
+use Rattle.command_line.specs.Words.{Setup}
 
 -- Why an ELF file isn't booted: for it or for its program's memory there is no room, or it is no program. No line is told of
 -- it. It is there as `/init`, so that it is never refused for want of one.

@@ -1,5 +1,3 @@
-pub mod Words
-pub mod WordsView
 pub mod Schedules
 pub mod Rows
 pub mod Runs

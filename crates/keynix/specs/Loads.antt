@@ -13,7 +13,7 @@ use Rattle.keynix.specs.declared.ending.Ending.TheVariants.{Halted, TurnsSpent, 
 use Rattle.keynix.specs.Endings.{IsSpent, run_of}
 use Rattle.keynix.specs.Inputs.{IsBoot, refusal_of}
 use Rattle.keynix.specs.Telling.{refusal_note}
-use Rattle.keynix.specs.Words.{Load, default_setup}
+use Rattle.command_line.specs.Words.{Load, default_setup}
 
 -- what the bundle of a load boots
 abbrev pub BootsLoad : Load → Result Booted Refusal → Type 0

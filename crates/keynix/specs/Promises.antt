@@ -5,7 +5,7 @@ use Rattle.rv_asm.specs.Programs as asm
 use Rattle.unix_model.specs.Machine.{Stop, Halted, Idle, PlanDone, Going}
 use Rattle.unix_model.specs.Notes.{halted_note, spent_note}
 use Rattle.unix_model.specs.Schedule.{Schedule}
-use Rattle.keynix.specs.Words.{Command, Load, Once, Work, Asm, Setup}
+use Rattle.command_line.specs.Words.{Command, Load, Once, Work, Asm, Setup}
 use Rattle.keynix.specs.declared.ending.Ending.{Ending}
 use Rattle.keynix.specs.declared.ending.Ending.TheVariants.{Usage}
 use Rattle.flat_bundle.specs.Booting.{Booted, Refusal}

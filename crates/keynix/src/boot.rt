@@ -7,11 +7,11 @@ ghost use Rattle.unix_model.specs.Boot.{is_elf};
 ghost use Rattle.keynix.specs.Counts.{ReadStays};
 ghost use Rattle.keynix.specs.Endings.{IsCaused};
 ghost use Rattle.keynix.specs.Inputs.{BootsAs, Reads};
-ghost use Rattle.keynix.specs.WordsView.{setup_view};
+ghost use Rattle.command_line.specs.WordsView.{setup_view};
 
 use crate::ending::{Ending, Refusal};
 use crate::fault::{boot_fault, fault};
-use crate::setup::Setup;
+use command_line::Setup;
 use flat_bundle::boot as boot_text;
 use flat_unix::Flat;
 use kn_io::{ReadError, Source, read_up_to};

@@ -7,16 +7,12 @@ mod ending;
 mod fault;
 mod finish;
 mod given;
-mod load_words;
 mod once;
-mod options;
 mod run;
 mod schedule;
-mod setup;
 #[cfg(test)]
 mod tests;
 mod top;
-mod words;
 mod work;
 
 use crate::finish::Status;

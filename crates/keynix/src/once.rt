@@ -6,7 +6,7 @@ ghost use Rattle.keynix.specs.Counts.{CountsStay, ReadStays};
 ghost use Rattle.keynix.specs.Endings.{EndsOn, EndsOnce, FromPlan, IsCaused, IsPlan, KeepsPlan, ReadsPlan, run_ending, schedule_told};
 ghost use Rattle.keynix.specs.Runs.{stop_of};
 ghost use Rattle.keynix.specs.Schedules.{schedule_of};
-ghost use Rattle.keynix.specs.WordsView.{plan_view, setup_view};
+ghost use Rattle.command_line.specs.WordsView.{plan_view, setup_view};
 
 use crate::boot::boot;
 use crate::ending::Ending;
@@ -14,7 +14,7 @@ use crate::fault::fault;
 use crate::given::Given;
 use crate::run::{Ran, Stop, run};
 use crate::schedule::Schedule;
-use crate::setup::{Plan, Setup};
+use command_line::{Plan, Setup};
 use kn_io::{Sink, Source};
 use plan::{PlanFault, read_plan};
 use std::alloc::Global;

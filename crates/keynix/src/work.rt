@@ -7,13 +7,12 @@ ghost use Rattle.workload.specs.Workload.{summary};
 ghost use Rattle.keynix.specs.Counts.{CountsStay};
 ghost use Rattle.keynix.specs.Endings.{IsCaused};
 ghost use Rattle.keynix.specs.Loads.{EndsWork, PutsSummary};
-ghost use Rattle.keynix.specs.WordsView.{load_view};
+ghost use Rattle.command_line.specs.WordsView.{load_view};
 
 use crate::ending::Ending;
 use crate::once::run_input;
 use crate::schedule::Schedule;
-use crate::setup::Load;
-use crate::words::default_setup;
+use command_line::{Load, default_setup};
 use kn_io::{ByteSource, CountSink, Sink};
 use std::alloc::Global;
 use unix_laws::run_puts_few;

@@ -1,7 +1,7 @@
 use Rattle.std.proofs.Common.{◌≡◌, false, sym, subst, ◌∙◌}
 use Rattle.unix_model.specs.Boot.{is_elf}
 use Rattle.keynix.specs.Inputs.{BootsAs}
-use Rattle.keynix.specs.WordsView.{setup_view}
+use Rattle.command_line.specs.WordsView.{setup_view}
 use Rattle.keynix.proofs.BootSteps.{begins, elf-first}
 use Rattle.keynix.proofs.boot.boot.Goals as goal
 

@@ -1,7 +1,7 @@
 use Rattle.std.proofs.Common.{Err, sym, subst, ◌++◌}
 use Rattle.std.specs.Option.{option_to_list}
 use Rattle.keynix.specs.Inputs.{BootsAs}
-use Rattle.keynix.specs.WordsView.{setup_view}
+use Rattle.command_line.specs.WordsView.{setup_view}
 use Rattle.keynix.proofs.BootSteps.{text-boots, text-fails}
 use Rattle.keynix.proofs.boot.boot_bundle.Goals as goal
 

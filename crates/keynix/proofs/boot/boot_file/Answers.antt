@@ -1,5 +1,5 @@
 use Rattle.std.proofs.Common.{◌∷◌, refl}
-use Rattle.keynix.specs.WordsView.{setup_view}
+use Rattle.command_line.specs.WordsView.{setup_view}
 use Rattle.keynix.proofs.BootSteps.{unread-boots}
 use Rattle.keynix.proofs.boot.boot_file.Goals as goal
 

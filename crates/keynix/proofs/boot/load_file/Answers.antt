@@ -4,7 +4,7 @@ use Rattle.flat_unix.specs.FlatView.{unix_of}
 use Rattle.unix_model.specs.Boot.{BootRefusal, NoRoomFor, empty_machine, init_entry, with_boot_entries}
 use Rattle.unix_model.specs.State.{Unix}
 use Rattle.keynix.specs.Inputs.{BootsAs}
-use Rattle.keynix.specs.WordsView.{setup_view}
+use Rattle.command_line.specs.WordsView.{setup_view}
 use Rattle.keynix.proofs.BootSteps.{boot-named, init-new, start-boots, start-fails, store-fails}
 use Rattle.keynix.proofs.boot.load_file.Goals as goal
 

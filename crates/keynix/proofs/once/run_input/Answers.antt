@@ -1,5 +1,5 @@
 use Rattle.keynix.specs.Schedules.{schedule_of}
-use Rattle.keynix.specs.WordsView.{setup_view}
+use Rattle.command_line.specs.WordsView.{setup_view}
 use Rattle.keynix.proofs.BootSteps.{unbooted-ends}
 use Rattle.keynix.proofs.once.run_input.Goals as goal
 

@@ -1,6 +1,6 @@
 use Rattle.std.proofs.Common.{ap}
 use Rattle.keynix.specs.Schedules.{slots_left}
-use Rattle.keynix.specs.WordsView.{plan_view}
+use Rattle.command_line.specs.WordsView.{plan_view}
 use Rattle.keynix.proofs.PlanSteps.{plan-read, plan-refused}
 use Rattle.keynix.proofs.once.schedule_for.Goals as goal
 

@@ -1,6 +1,6 @@
 use Rattle.std.specs.Prelude.{map, string_bytes}
 use Rattle.kn_io.specs.Faults.{Rose}
-use Rattle.keynix.specs.Words.{command_of}
+use Rattle.command_line.specs.Words.{command_of}
 use Rattle.keynix.proofs.Told.{status-told, halted-told, written-told, spent-told, idle-told, refused-told, usage-told, usage-exactly, usage-output, input-kept, load-told, refused_source-told, plan-first, read-told, write-told, note-part-told, note-whole-told, no_memory-told, part-told, refused-output-told, refused_source-output-told, output-told, file-part-told, complete-told, refuses-told, refuses_plan-told, assembles-told, refuses_source-told}
 use Rattle.keynix.proofs.top.keynix.Goals as goal
 

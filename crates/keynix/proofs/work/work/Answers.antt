@@ -1,7 +1,7 @@
 use Rattle.std.proofs.Common.{◌≡◌, Some, refl, ap, ◌∙◌, arith}
 use Rattle.kn_io.specs.InMemory.{bytes_left}
 use Rattle.workload.specs.Workload.{work_bundle}
-use Rattle.keynix.specs.WordsView.{load_view, setup_view}
+use Rattle.command_line.specs.WordsView.{load_view, setup_view}
 use Rattle.keynix.proofs.WorkSteps.{halted-puts, other-ends, runs-so, counts-stay, no-cause}
 use Rattle.keynix.proofs.work.work.Goals as goal
 

@@ -1,8 +1,8 @@
 //! The words of the command line.
 
 ghost use Rattle.std.specs.Prelude.{◌≡◌, ◌≤◌, Some, IfSome, codes, map, option_map, string_bytes};
-ghost use Rattle.keynix.specs.Words as model;
-ghost use Rattle.keynix.specs.WordsView.{command_view, options_view, plan_view, setup_view};
+ghost use Rattle.command_line.specs.Words as model;
+ghost use Rattle.command_line.specs.WordsView.{command_view, options_view, plan_view, setup_view};
 
 use crate::options::{LoadOptions, Options};
 use crate::setup::{Load, Plan, Setup};

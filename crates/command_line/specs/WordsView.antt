@@ -1,14 +1,14 @@
 -- The commands and options that the program's own stand for.
 use Rattle.std.specs.Prelude.{option_map}
-use Rattle.keynix.specs.Words as model
-use Rattle.keynix.specs.declared.options.LoadOptions.{LoadOptions}
-use Rattle.keynix.specs.declared.options.Options.{Options}
-use Rattle.keynix.specs.declared.setup.Load.{Load}
-use Rattle.keynix.specs.declared.setup.Plan.{Plan}
-use Rattle.keynix.specs.declared.setup.Plan.TheVariants.{Round, Given}
-use Rattle.keynix.specs.declared.setup.Setup.{Setup}
-use Rattle.keynix.specs.declared.words.Command.{Command}
-use Rattle.keynix.specs.declared.words.Command.TheVariants.{Once, Work, Asm}
+use Rattle.command_line.specs.Words as model
+use Rattle.command_line.specs.declared.options.LoadOptions.{LoadOptions}
+use Rattle.command_line.specs.declared.options.Options.{Options}
+use Rattle.command_line.specs.declared.setup.Load.{Load}
+use Rattle.command_line.specs.declared.setup.Plan.{Plan}
+use Rattle.command_line.specs.declared.setup.Plan.TheVariants.{Round, Given}
+use Rattle.command_line.specs.declared.setup.Setup.{Setup}
+use Rattle.command_line.specs.declared.words.Command.{Command}
+use Rattle.command_line.specs.declared.words.Command.TheVariants.{Once, Work, Asm}
 
 abbrev pub plan_view : Plan → model.Plan
 plan_view Round = model.Round

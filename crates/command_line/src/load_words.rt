@@ -1,8 +1,8 @@
 //! The words behind `work`.
 
 ghost use Rattle.std.specs.Prelude.{◌≡◌, ◌≤◌, Some, IfSome, codes, map, option_map, string_bytes};
-ghost use Rattle.keynix.specs.Words as model;
-ghost use Rattle.keynix.specs.WordsView.{load_options_view, load_view};
+ghost use Rattle.command_line.specs.Words as model;
+ghost use Rattle.command_line.specs.WordsView.{load_options_view, load_view};
 
 use crate::options::LoadOptions;
 use crate::setup::Load;
