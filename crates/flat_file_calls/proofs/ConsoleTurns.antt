@@ -18,7 +18,7 @@ use Rattle.unix_model.proofs.TableLaws.{with_at-twice}
 use Rattle.flat_state.specs.Settles.{Settles}
 use Rattle.flat_file_calls.specs.declared.console.fault.ConsoleFault.{ConsoleFault}
 use Rattle.flat_file_calls.specs.Console.{Reads, Writes, read_turn, write_turn}
-use Rattle.flat_file_calls.proofs.ConsoleLaws.{taken-next}
+use Rattle.console_domain.proofs.LineLaws.{taken-next}
 
 -- a process is put back in another phase
 pub phase-over : (unix : Unix) (slot : ℕ) (process : Process) (phase : Phase) → with_phase unix slot process phase ≡ with_phase (with_process unix slot process) slot process phase

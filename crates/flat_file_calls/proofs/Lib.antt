@@ -3,5 +3,4 @@ pub mod Settling
 pub mod FileLines
 pub mod LengthLaws
 pub mod ListingLaws
-pub mod ConsoleLaws
 pub mod ConsoleTurns

@@ -6,6 +6,7 @@ use Rattle.unix_model.specs.FileCalls.{read_line, write_line}
 use Rattle.unix_model.specs.Process.{Process}
 use Rattle.unix_model.specs.State.{Unix}
 use Rattle.unix_model.specs.TurnRecord.{Turn}
+pub use Rattle.console_domain.specs.Lines.{TakesFront}
 use Rattle.flat_file_calls.specs.declared.console.fault.ConsoleFault.{ConsoleFault}
 use Rattle.flat_file_calls.specs.declared.console.fault.ConsoleFault.TheVariants.{Failed, NoMemory}
 
@@ -34,15 +35,6 @@ pub record Writes {K : Type 0} (turn : List ℕ → Turn) (grew : K → List ℕ
   pub nothing_taken : (input : List ℕ) → (turn input).taken ≡ []
   pub left_is : (input : List ℕ) → (turn input).left ≡ input
   pub sink_grew : (input : List ℕ) → grew old (turn input).put new
-
--- of an input a front of these bytes is gone
-pub record TakesFront (input bytes : List ℕ) (now : Option (List ℕ)) : Type 0 where
-  pub front : List ℕ
-  pub behind : List ℕ
-  pub left : List ℕ
-  pub front_is : front ++ behind ≡ bytes
-  pub input_is : input ≡ front ++ left
-  pub left_is : now ≡ Some left
 
 -- unless a call failed, a count of faults is the same
 abbrev pub CountsSame : {A : Type 0} → Type 0 → Result A ConsoleFault → Type 0

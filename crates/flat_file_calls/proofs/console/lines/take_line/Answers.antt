@@ -1,6 +1,6 @@
 use Rattle.std.proofs.Common.{◌≡◌, arith, refl, sym, subst, ◌∙◌}
 use Rattle.std.proofs.lemmas.Bool.Decides.{nat_tests}
-use Rattle.flat_file_calls.proofs.ConsoleLaws.{Begins, line-ends, line-goes, full-taken, full-left, at-end, begun-front, lost-front}
+use Rattle.console_domain.proofs.LineLaws.{Begins, line-ends, line-goes, full-taken, full-left, at-end, begun-front, lost-front}
 use Rattle.flat_file_calls.proofs.console.lines.take_line.Goals as goal
 
 pub returns-in-Ok-None-clause-taken : goal.returns-in-Ok-None-clause-taken

@@ -1,5 +1,5 @@
 use Rattle.std.proofs.Common.{◌≡◌, ◌+◌, ℕ, List, Some, vec_len}
-use Rattle.flat_file_calls.proofs.ConsoleLaws.{Begins}
+use Rattle.console_domain.proofs.LineLaws.{Begins}
 use Rattle.flat_file_calls.proofs.console.lines.take_line.Given as goal
 
 abbrev pub invariant-taking : goal.invariant-taking

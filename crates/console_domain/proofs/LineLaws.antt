@@ -1,11 +1,12 @@
 -- Lines of the console's input.
-use Rattle.std.proofs.Common.{◌≡◌, ℕ, zero, suc, ◌-◌, ◌<◌, Bool, true, false, Option, Some, None, List, [], ◌∷◌, ◌++◌, arith, refl, ap, sym, ◌∙◌, subst, inl, inr, append_assoc, append-nil}
+use Rattle.std.proofs.Common.{◌≡◌, ℕ, zero, suc, ◌-◌, ◌<◌, ◌≤◌, take, drop, length, Bool, true, false, Option, Some, None, List, [], ◌∷◌, ◌++◌, arith, refl, ap, sym, ◌∙◌, subst, inl, inr, append_assoc, append-nil}
 use Rattle.std.proofs.lemmas.Bool.{cases_Bool}
+use Rattle.std.proofs.lemmas.List.{take-append-drop, length-take-le}
 use Rattle.std.proofs.lemmas.Bool.Decides.{nat_tests}
 use Rattle.std.specs.Prelude.{◌≢◌, ◌==◌, if◌then◌else◌}
 use Rattle.kn_io.specs.Source.{Takes, IsAtEnd}
 use Rattle.unix_model.specs.FileCalls.{line_left, line_taken}
-use Rattle.flat_file_calls.specs.Console.{TakesFront}
+use Rattle.console_domain.specs.Lines.{TakesFront, LosesFront}
 
 -- of a line of at most so many bytes these were taken, and so many more may be
 pub record Begins (count : ℕ) (bytes line : List ℕ) (room : ℕ) (now : Option (List ℕ)) : Type 0 where
@@ -105,3 +106,12 @@ lost-front count bytes line room byte old now some begun takes = elim (cases_Boo
   | inl ends ↦ begun-front count bytes (line ++ byte ∷ []) now now 0 (ends-line count bytes line room byte old now some begun takes ends)
   | inr goes ↦ begun-front count bytes (line ++ byte ∷ []) now now (room - 1) (goes-on count bytes line room byte old now some begun takes goes)
 ]
+
+-- A front of the line was taken to the front of a list, of which the rest is as before.
+pub begun-lost : (count : ℕ) (bytes : List ℕ) (now : Option (List ℕ)) (room taken : ℕ) (old new : List ℕ) → Begins count bytes (take taken new) room now
+    → taken ≤ length new → drop taken new ≡ drop taken old → LosesFront bytes (line_taken count bytes) now old new
+unfolding begun-front
+begun-lost count bytes now room taken old new begun within behind = record {
+  taken = begun-front count bytes (take taken new) now now room begun;
+  into = sym (take-append-drop taken new) ∙ ap (λ (rest : List ℕ). take taken new ++ rest) (behind ∙ ap (λ (n : ℕ). drop n old) (sym (length-take-le taken new within)));
+}
