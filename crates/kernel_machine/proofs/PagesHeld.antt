@@ -113,7 +113,7 @@ slot-few machine first size slot (Some root) fits = domain-few machine first siz
 
 -- ---- inodes
 
-pages-long : (memory : Memory) → ((number : ℕ) → length (mapped_bytes (at memory number)) ≡ 4096) → (n : ℕ) → length (pages_in memory n) ≡ 4096 * n
+pub pages-long : (memory : Memory) → ((number : ℕ) → length (mapped_bytes (at memory number)) ≡ 4096) → (n : ℕ) → length (pages_in memory n) ≡ 4096 * n
 unfolding pages_in
 pages-long memory whole zero = refl
 pages-long memory whole (suc n) = omega (arith, length-append (pages_in memory n) (mapped_bytes (at memory n)), pages-long memory whole n, whole n)
