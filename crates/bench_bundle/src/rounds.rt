@@ -12,9 +12,6 @@ use std::alloc::{AllocError, Global};
 /// How many lines the first bundle has in its file.
 const HEX_LINES: u32 = 4000;
 
-/// The last line of a bundle.
-const LAST_LINE: &[u8] = b"end";
-
 /// How many files the second has.
 const FILES: u32 = 1000;
 
@@ -62,11 +59,8 @@ pub fn lines_of(alloc: Global, text: &[u8]) -> Option<u32> {
     'reading: while reader.line() < 1_000_000 {
         match reader.next_line(&mut source, &mut line) {
             Ok(true) => {}
-            Ok(false) => return None,
+            Ok(false) => return Some(reader.line()),
             Err(_) => return None,
-        }
-        if line.as_slice() == LAST_LINE {
-            return Some(reader.line());
         }
     }
     None

@@ -105,7 +105,7 @@ fn plain_file<S: Source>(
     ensures failed { IfErr result (λ fault. fault ≡ BundleFault.ReadFault → Rose (S.faults from.old) (S.faults from.new)) }
 {
     let mut bytes = Vec::new(alloc);
-    match read_part(form, count, lines, into, from, &mut bytes) {
+    match read_part(alloc, form, count, lines, into, from, &mut bytes) {
         Ok(PartEnd::Whole) => Ok(bytes),
         Ok(PartEnd::Broken { kind, line }) => Err(BundleFault::At { kind, line }),
         Err(fault) => Err(fault),
@@ -133,7 +133,7 @@ fn source_file<S: Source>(
 {
     let number = lines.line();
     let mut text = Vec::new(alloc);
-    match read_part(Form::Asm, count, lines, into, from, &mut text) {
+    match read_part(alloc, Form::Asm, count, lines, into, from, &mut text) {
         Ok(PartEnd::Whole) => file_of(alloc, number, text.as_slice()),
         Ok(PartEnd::Broken { kind, line }) => {
             Err(front_fault(alloc, number, text.as_slice(), kind, line))

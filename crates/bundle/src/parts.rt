@@ -1,6 +1,6 @@
 //! The lines behind an entry line.
 
-ghost use Rattle.std.specs.Prelude.{◌≡◌, ◌⊎◌, ◌+◌, ◌-◌, ◌^◌, ◌<◌, ◌≤◌, [], length, IfOk, IfErr};
+ghost use Rattle.std.specs.Prelude.{◌≡◌, ◌⊎◌, ◌+◌, ◌-◌, ◌^◌, ◌<◌, ◌≤◌, [], IfOk, IfErr};
 ghost use Rattle.kn_io.specs.Faults.{Rose};
 ghost use Rattle.kn_text.specs.Lines.{pending, lines_begun};
 ghost use Rattle.bundle.specs.Streams.{CountsSame, TakesPart};
@@ -10,12 +10,10 @@ use crate::fault::{BundleFault, BundleKind};
 use crate::lines::read_line;
 use crate::said::Form;
 use arrayvec::ArrayVec;
+use hex::FromHexError;
 use kn_io::Source;
 use kn_text::LineReader;
-use std::alloc::AllocError;
-
-/// The most bytes that the digits of a line spell.
-const MOST_SPELLED: usize = 512;
+use std::alloc::{AllocError, Global};
 
 /// How the lines behind an entry line ended.
 #[derive(Clone, Copy)]
@@ -29,6 +27,7 @@ pub enum PartEnd {
 /// Reads so many lines, each into `into`, and adds what they give to `bytes`. The source loses these lines and no byte more; where one is wrong,
 /// none after it is read.
 pub fn read_part<S: Source>(
+    alloc: Global,
     form: Form,
     count: u32,
     lines: &mut LineReader,
@@ -54,7 +53,7 @@ pub fn read_part<S: Source>(
             Err(BundleFault::At { kind, line }) => return Ok(PartEnd::Broken { kind, line }),
             Err(fault) => return Err(fault),
         }
-        match add_line(form, into.as_slice(), bytes) {
+        match add_line(alloc, form, into.as_slice(), bytes) {
             Ok(true) => {}
             Ok(false) => {
                 return Ok(PartEnd::Broken {
@@ -70,14 +69,13 @@ pub fn read_part<S: Source>(
 }
 
 // Adds what a line gives. Where it gives nothing, the answer is `false`.
-fn add_line(form: Form, line: &[u8], bytes: &mut Vec<u8>) -> Result<bool, AllocError>
-    requires { length line.now ≤ 1024 }
+fn add_line(alloc: Global, form: Form, line: &[u8], bytes: &mut Vec<u8>) -> Result<bool, AllocError>
     ensures { IfOk result (λ told. Adds form line.now bytes.old.items told bytes.new.items) }
 {
     match form {
         Form::Text => add_text(line, bytes),
         Form::Asm => add_text(line, bytes),
-        Form::Hex => add_digits(line, bytes),
+        Form::Hex => add_digits(alloc, line, bytes),
     }
 }
 
@@ -92,17 +90,15 @@ fn add_text(line: &[u8], bytes: &mut Vec<u8>) -> Result<bool, AllocError>
 }
 
 // Adds the bytes that hexadecimal digits spell.
-fn add_digits(line: &[u8], bytes: &mut Vec<u8>) -> Result<bool, AllocError>
-    requires { length line.now ≤ 1024 }
+fn add_digits(alloc: Global, line: &[u8], bytes: &mut Vec<u8>) -> Result<bool, AllocError>
     ensures { IfOk result (λ told. Adds Form.Hex line.now bytes.old.items told bytes.new.items) }
 {
-    let mut room = [0u8; MOST_SPELLED];
-    let spelled = &mut room[..line.len() / 2];
-    match hex::decode_to_slice(line, spelled) {
-        Ok(()) => {
-            bytes.extend_from_slice(spelled)?;
+    match hex::decode(alloc, line) {
+        Ok(more) => {
+            bytes.extend_from_slice(more.as_slice())?;
             Ok(true)
         }
+        Err(FromHexError::OutOfMemory) => Err(AllocError),
         Err(_) => Ok(false),
     }
 }
