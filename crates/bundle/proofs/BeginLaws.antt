@@ -13,7 +13,7 @@ use Rattle.bundle.specs.Views.{IsContent}
 use Rattle.bundle.specs.Bundles.{Place, begun, first_line, start}
 use Rattle.bundle.specs.Streams.{Stops, TakesLine, FailsLine, IsWrongLine, Begins, FailsToBegin, place_behind}
 
-differs : (number : ℕ) → number ≢ 0 → (number == 0) ≡ false
+pub differs : (number : ℕ) → number ≢ 0 → (number == 0) ≡ false
 differs number other = grind (arith, nat_tests, other)
 
 -- the first line was read before

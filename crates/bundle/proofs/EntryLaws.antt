@@ -4,12 +4,12 @@ use Rattle.bundle.specs.declared.entry.Entry.{Entry}
 use Rattle.bundle.specs.declared.fault.BundleFault.{BundleFault}
 use Rattle.bundle.specs.declared.fault.BundleFault.TheVariants.{At, ReadFault, NoMemory}
 use Rattle.bundle.specs.declared.fault.BundleKind.{BundleKind}
-use Rattle.bundle.specs.declared.said.Said.{Said}
 use Rattle.bundle.specs.Outcomes.{Outcome, Ends, Refused, ◌>>=◌, next_line}
 use Rattle.bundle.specs.Contents.{Made, made_of}
-use Rattle.bundle.specs.Views.{IsEntry, said_view, what_view}
+use Rattle.bundle.specs.EntryLines.{Said}
+use Rattle.bundle.specs.Views.{IsEntry}
 use Rattle.bundle.specs.Bundles.{Place, Named, Given, accepted, begun, named, entry_at, next_entry, given_by, bundle_from, entries_in, entry_then, no_entries}
-use Rattle.bundle.specs.Streams.{ComesNext, HasEnded, IsRefused, Stops, Fails, TakesLine, FailsLine, IsWrongLine, Begins, FailsToBegin, place_behind, TakesGiven, FailsToMake, Says, SaysNothing, FailsEntry}
+use Rattle.bundle.specs.Streams.{ComesNext, HasEnded, IsRefused, Stops, Fails, TakesLine, FailsLine, IsWrongLine, Begins, FailsToBegin, place_behind, TakesGiven, FailsToMake, IsNotTaken, Says, SaysNothing, FailsEntry}
 
 -- ---- the definition, step by step
 
@@ -76,10 +76,10 @@ line-fails place now first next old left fault begins fails = λ bytes told.
     wrong-line place now (first ++ bytes) (next ++ b.0) fault b.2 (fails b.0 b.1)
 
 says-nothing : (place now : Place) (bytes next line rest : List ℕ) (fault : BundleFault) → begun place bytes ≡ Ok (record { place = now; bytes = next }) → next_line next ≡ Ok (record { line = line; rest = rest })
-    → Stops fault (accepted now.room now.known (now.line + 1) (record { line = line; rest = rest })) → IsRefused place bytes fault
+    → IsNotTaken fault (accepted now.room now.known (now.line + 1) (record { line = line; rest = rest })) → IsRefused place bytes fault
 says-nothing place now bytes next line rest (At kind number) begins read stops = outcome-first place bytes (Refused kind number) (not-said place now bytes next line rest begins read (Refused kind number) stops)
 says-nothing place now bytes next line rest ReadFault begins read stops = tt
-says-nothing place now bytes next line rest NoMemory begins read stops = absurd stops
+says-nothing place now bytes next line rest NoMemory begins read stops = (stops.0, line-there place now bytes next line rest begins read stops.0 stops.1)
 
 pub line-says-nothing : (place now : Place) (number : ℕ) (first next line : List ℕ) (old left after : Option (List ℕ)) (fault : BundleFault) → Begins place first old now next left → TakesLine next left line after
     → number ≡ now.line + 1 → SaysNothing now.room now.known number line fault → FailsEntry place first old fault
@@ -107,29 +107,29 @@ fails-to-make place now bytes next line rest ReadFault entry begins read says fa
 fails-to-make place now bytes next line rest NoMemory entry begins read says fails = (entry, line-there place now bytes next line rest begins read entry says)
 
 pub make-fails : (place now : Place) (number : ℕ) (said : Said) (first next line : List ℕ) (old left after : Option (List ℕ)) (fault : BundleFault) → Begins place first old now next left → TakesLine next left line after
-    → number ≡ now.line + 1 → Says now.room now.known number line (Some said) → FailsToMake (λ bytes. made_of number (what_view said.what) bytes) after fault → FailsEntry place first old fault
+    → number ≡ now.line + 1 → Says now.room now.known number line (Some said) → FailsToMake (λ bytes. made_of number said.what bytes) after fault → FailsEntry place first old fault
 make-fails place now number said first next line old left after fault begins takes stands says fails = λ bytes told.
     let b = begins bytes told in
     let l = takes b.0 b.1 in
-    fails-to-make place now (first ++ bytes) (next ++ b.0) line l.0 fault (record { said = said_view said; rest = l.0 }) b.2 l.2 ((rw stands at says) l.0) ((rw stands at fails) l.0 l.1)
+    fails-to-make place now (first ++ bytes) (next ++ b.0) line l.0 fault (record { said = said; rest = l.0 }) b.2 l.2 ((rw stands at says) l.0) ((rw stands at fails) l.0 l.1)
 
 -- ---- an entry
 
 comes : (place now then : Place) (bytes next line rest : List ℕ) (said : Said) (entry : Entry) (made : Made) (last : Option (List ℕ))
     → begun place bytes ≡ Ok (record { place = now; bytes = next }) → next_line next ≡ Ok (record { line = line; rest = rest })
-    → accepted now.room now.known (now.line + 1) (record { line = line; rest = rest }) ≡ Ok (record { said = said_view said; rest = rest })
-    → made_of (now.line + 1) (what_view said.what) rest ≡ Ok made → last ≡ Some made.rest
-    → IsEntry (record { path = said.path.now; content = made.content; line = now.line + 1 }) entry
-    → then ≡ place_behind (record now { line = now.line + 1 }) said.path.now made → place.room ≡ suc (now.room - 1)
+    → accepted now.room now.known (now.line + 1) (record { line = line; rest = rest }) ≡ Ok (record { said = said; rest = rest })
+    → made_of (now.line + 1) said.what rest ≡ Ok made → last ≡ Some made.rest
+    → IsEntry (record { path = said.path; content = made.content; line = now.line + 1 }) entry
+    → then ≡ place_behind (record now { line = now.line + 1 }) said.path made → place.room ≡ suc (now.room - 1)
     → ComesNext place bytes entry then last
 comes place now then bytes next line rest said entry made last begins read says makes left_is is_entry behind room =
-    let given = is-made place now bytes next line rest begins read (record { said = said_view said; rest = rest }) says made makes in
+    let given = is-made place now bytes next line rest begins read (record { said = said; rest = rest }) says made makes in
     record {
-      described = record { path = said.path.now; content = made.content; line = now.line + 1 };
+      described = record { path = said.path; content = made.content; line = now.line + 1 };
       rest = made.rest;
       is_entry = is_entry;
       left_is = left_is;
-      bundle = rw behind (entry-first place bytes (given_by now said.path.now made) given room);
+      bundle = rw behind (entry-first place bytes (given_by now said.path made) given room);
     }
 
 pub entry-comes : (place now then : Place) (number : ℕ) (said : Said) (entry : Entry) (first next line : List ℕ) (old left after last : Option (List ℕ)) → Begins place first old now next left → TakesLine next left line after

@@ -1,6 +1,8 @@
 mod LineLaws
 mod PathLaws
+mod WordLaws
 mod KnownLaws
+mod AllowedLaws
 mod PartLaws
 mod SourceLaws
 mod MadeLaws

@@ -1,5 +1,5 @@
 -- What one line of a bundle says.
-use Rattle.std.specs.Prelude.{ℕ, ◌+◌, Bool, ◌||◌, List, length, take, drop, position, Option, Some, None, is_some, codes, bytes_eq, ◌==◌, if◌then◌else◌}
+use Rattle.std.specs.Prelude.{ℕ, ◌+◌, Bool, true, false, ◌||◌, List, length, take, drop, position, Option, Some, None, is_some, codes, bytes_eq, ◌==◌, if◌then◌else◌}
 use Rattle.unix_model.specs.Texts.{number_of}
 use Rattle.userland.specs.Programs.{source_named}
 use Rattle.rv_asm.specs.Choices.{◌>>=◌}
@@ -13,6 +13,12 @@ pub data What : Type 0 where
   Part : (form : Form) (lines : ℕ) → What
   -- the file of a source of the userland
   Program : (source : List ℕ) → What
+
+-- whether that is a directory
+abbrev pub makes_directory : What → Bool
+makes_directory Directory = true
+makes_directory (Part form lines) = false
+makes_directory (Program source) = false
 
 pub record Said : Type 0 where
   pub path : List ℕ

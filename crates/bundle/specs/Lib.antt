@@ -1,5 +1,7 @@
 pub mod Outcomes
 pub mod Paths
+pub mod Forms
+pub mod Keys
 pub mod EntryLines
 pub mod Parts
 pub mod Contents

@@ -7,7 +7,6 @@ use Rattle.bundle.specs.declared.fault.BundleKind.{BundleKind}
 use Rattle.bundle.specs.declared.parts.PartEnd.{PartEnd}
 use Rattle.bundle.specs.declared.parts.PartEnd.TheVariants as code
 use Rattle.bundle.specs.declared.said.Form.{Form}
-use Rattle.bundle.specs.declared.said.Said.{Said}
 use Rattle.bundle.specs.declared.fault.BundleKind.TheVariants.{BadAsm}
 use Rattle.rv_asm.specs.Programs.{Refusal}
 use Rattle.bundle.specs.Outcomes.{Outcome, Ends, Refused, NextLine, ◌>>=◌, next_line}
@@ -15,7 +14,8 @@ use Rattle.bundle.specs.Parts.{Whole, Broken, part_of}
 use Rattle.bundle.specs.Paths.{Known, with_path}
 use Rattle.bundle.specs.Contents.{Content, Made, made_of, is_directory}
 use Rattle.bundle.specs.Bundles.{Described, Place, Named, accepted, begun, named, bundle_from, entry_then, no_entries}
-use Rattle.bundle.specs.Views.{IsEntry, what_view, said_view}
+use Rattle.bundle.specs.EntryLines.{Said}
+use Rattle.bundle.specs.Views.{IsEntry}
 
 -- ---- an answer of `next_entry`
 
@@ -93,11 +93,17 @@ FailsToBegin place first old fault = (bytes : List ℕ) → old ≡ Some bytes �
 -- what a line says, whatever follows it: an entry, or the end
 abbrev pub Says : ℕ → Known → ℕ → List ℕ → Option Said → Type 0
 Says room known number line (Some said) =
-    (rest : List ℕ) → accepted room known number (record { line = line; rest = rest }) ≡ Ok (record { said = said_view said; rest = rest })
+    (rest : List ℕ) → accepted room known number (record { line = line; rest = rest }) ≡ Ok (record { said = said; rest = rest })
 Says room known number line None = (rest : List ℕ) → accepted room known number (record { line = line; rest = rest }) ≡ Err (Ends rest)
 
+-- a fault tells of a line that it is refused so, or that an entry's line was accepted and host memory ran out
+abbrev pub IsNotTaken : BundleFault → Result Named Outcome → Type 0
+IsNotTaken (At kind line) meaning = meaning ≡ Err (Refused kind line)
+IsNotTaken ReadFault meaning = ⊥
+IsNotTaken NoMemory meaning = (entry : Named) × (meaning ≡ Ok entry)
+
 abbrev pub SaysNothing : ℕ → Known → ℕ → List ℕ → BundleFault → Type 0
-SaysNothing room known number line fault = (rest : List ℕ) → Stops fault (accepted room known number (record { line = line; rest = rest }))
+SaysNothing room known number line fault = (rest : List ℕ) → IsNotTaken fault (accepted room known number (record { line = line; rest = rest }))
 
 -- what so many lines give: all of them, or those before a wrong one
 abbrev pub IsPart : Form → ℕ → List ℕ → PartEnd → (number now : ℕ) → List ℕ → Option (List ℕ) → Type 0
@@ -131,8 +137,8 @@ place_behind place path made =
 -- an entry was made, and its path is known
 abbrev pub TakesGiven : Place → Said → Option (List ℕ) → Entry → Place → Option (List ℕ) → Type 0
 TakesGiven place said old entry now left =
-    (bytes : List ℕ) → old ≡ Some bytes → (made : Made) × (made_of place.line (what_view said.what) bytes ≡ Ok made) × (left ≡ Some made.rest)
-    × IsEntry (record { path = said.path.now; content = made.content; line = place.line }) entry × (now ≡ place_behind place said.path.now made)
+    (bytes : List ℕ) → old ≡ Some bytes → (made : Made) × (made_of place.line said.what bytes ≡ Ok made) × (left ≡ Some made.rest)
+    × IsEntry (record { path = said.path; content = made.content; line = place.line }) entry × (now ≡ place_behind place said.path made)
 
 -- ---- counts
 

@@ -1,18 +1,18 @@
 -- What the code's values stand for.
-use Rattle.std.specs.Prelude.{◌≡◌, ℕ, ◌+◌, ◌*◌, ◌≤◌, ◌++◌, Bool, true, false, List, Option, Some, None, bytes_eq}
+use Rattle.std.specs.Prelude.{◌≡◌, ℕ, ◌+◌, ◌*◌, ◌≤◌, ◌++◌, Bool, true, false, List, Option, Some, None}
 use Rattle.std.specs.Borrow.{Bor}
 use Rattle.std.specs.Global.{Vec}
-use Rattle.indexmap.specs.IndexMap.{IndexMap, get_by}
 use Rattle.kn_text.specs.Lines as lines
 use Rattle.bundle.specs.declared.reader.BundleReader.{BundleReader}
 use Rattle.bundle.specs.declared.entry.Entry.{Entry}
 use Rattle.bundle.specs.declared.entry.Entry.TheVariants.{Dir, File}
 use Rattle.bundle.specs.declared.said.Form.{Form}
+use Rattle.bundle.specs.declared.said.Named.{Named}
 use Rattle.bundle.specs.declared.said.Said.{Said}
 use Rattle.bundle.specs.declared.said.What.{What}
 use Rattle.bundle.specs.declared.said.What.TheVariants as code
 use Rattle.bundle.specs.EntryLines as model
-use Rattle.bundle.specs.Paths as paths
+use Rattle.bundle.specs.Keys.{known_of}
 use Rattle.bundle.specs.Parts.{line_bytes}
 use Rattle.bundle.specs.Bundles.{Described, Place}
 use Rattle.bundle.specs.Contents.{Content, Directory, Holds}
@@ -29,15 +29,14 @@ what_view (code.Program source) = model.Program source.now
 abbrev pub said_view : Said → model.Said
 said_view said = record { path = said.path.now; what = what_view said.what }
 
+abbrev pub named_view : Named → model.Said
+named_view named = record { path = named.path; what = what_view named.what }
+
 -- at most 100,000 lines follow
 abbrev pub AreFew : What → Type 0
 AreFew code.Directory = Unit {0}
 AreFew (code.Part form lines) = lines ≤ 100000
 AreFew (code.Program source) = Unit {0}
-
--- the paths that a map gives
-abbrev pub known_of : {S : Type 0} → IndexMap (Vec ℕ) Bool S → paths.Known
-known_of map path = get_by (λ key. bytes_eq path key.items) map
 
 -- where a reader stands in its bundle
 abbrev pub place_of : BundleReader → Place

@@ -1,12 +1,13 @@
 //! What an entry is made of.
 
-ghost use Rattle.std.specs.Prelude.{◌≡◌, ◌≢◌, ◌+◌, ◌-◌, ◌^◌, ◌<◌, ◌≤◌, ℕ, List, [], Ok, IfOk, IfErr};
+ghost use Rattle.std.specs.Prelude.{◌≡◌, ◌≢◌, ◌+◌, ◌-◌, ◌^◌, ◌<◌, ◌≤◌, ℕ, List, [], Ok, not, is_some, IfOk, IfErr};
 ghost use Rattle.kn_io.specs.Faults.{Rose};
 ghost use Rattle.kn_text.specs.Lines.{pending, lines_begun};
 ghost use Rattle.rv_asm.specs.Files.{IsFile};
 ghost use Rattle.rv_asm.specs.Programs.{Program, assembled, scan_lines, start_scan};
 ghost use Rattle.unix_model.specs.Texts.{lines_of};
 ghost use Rattle.bundle.specs.Contents.{Holds, file_made, front_refused, made_of, part_made, source_made, user_made};
+ghost use Rattle.bundle.specs.EntryLines.{makes_directory};
 ghost use Rattle.bundle.specs.Parts.{part_of};
 ghost use Rattle.bundle.specs.Streams.{CountsSame, TakesMade, FailsToMake, Fails, IsRefusedBehind};
 ghost use Rattle.bundle.specs.Views.{AreFew, IsContent, what_view};
@@ -14,17 +15,19 @@ ghost use Rattle.bundle.specs.Views.{AreFew, IsContent, what_view};
 use crate::fault::{BundleFault, BundleKind};
 use crate::parts::{PartEnd, read_part};
 use crate::said::{Form, What};
+use arrayvec::ArrayVec;
 use kn_io::Source;
 use kn_text::LineReader;
 use rv_asm::{AsmFault, assemble, check_front};
 use std::alloc::Global;
 
 /// The bytes of an entry's file, or None for a directory. The source loses the lines that the entry is made of, and no byte
-/// more.
+/// more; `into` is where lines are read.
 pub fn content<S: Source>(
     alloc: Global,
     what: What,
     lines: &mut LineReader,
+    into: &mut ArrayVec<u8, 1024>,
     from: &mut S,
 ) -> Result<Option<Vec<u8>>, BundleFault>
     requires begins { pending lines.old ≡ [] }
@@ -34,13 +37,16 @@ pub fn content<S: Source>(
     ensures fault { IfErr result (FailsToMake (λ bytes. made_of (lines_begun lines.old) (what_view what) bytes) (S.left from.old)) }
     ensures pending { pending lines.new ≡ [] }
     ensures few { IfOk result (λ file. lines_begun lines.new ≤ lines_begun lines.old + 100000) }
+    ensures kind { IfOk result (λ file. is_some file ≡ not (makes_directory (what_view what))) }
     ensures same { CountsSame (S.faults from.new ≡ S.faults from.old) result }
     ensures counted { S.faults from.old ≤ S.faults from.new }
     ensures failed { IfErr result (λ fault. fault ≡ BundleFault.ReadFault → Rose (S.faults from.old) (S.faults from.new)) }
 {
     match what {
         What::Directory => Ok(None),
-        What::Part { form, lines: count } => match part_file(alloc, form, count, lines, from) {
+        What::Part { form, lines: count } => match part_file(
+            alloc, form, count, lines, into, from,
+        ) {
             Ok(file) => Ok(Some(file)),
             Err(fault) => Err(fault),
         },
@@ -57,6 +63,7 @@ fn part_file<S: Source>(
     form: Form,
     count: u32,
     lines: &mut LineReader,
+    into: &mut ArrayVec<u8, 1024>,
     from: &mut S,
 ) -> Result<Vec<u8>, BundleFault>
     requires begins { pending lines.old ≡ [] }
@@ -71,9 +78,9 @@ fn part_file<S: Source>(
     ensures failed { IfErr result (λ fault. fault ≡ BundleFault.ReadFault → Rose (S.faults from.old) (S.faults from.new)) }
 {
     match form {
-        Form::Text => plain_file(alloc, Form::Text, count, lines, from),
-        Form::Hex => plain_file(alloc, Form::Hex, count, lines, from),
-        Form::Asm => source_file(alloc, count, lines, from),
+        Form::Text => plain_file(alloc, Form::Text, count, lines, into, from),
+        Form::Hex => plain_file(alloc, Form::Hex, count, lines, into, from),
+        Form::Asm => source_file(alloc, count, lines, into, from),
     }
 }
 
@@ -83,6 +90,7 @@ fn plain_file<S: Source>(
     form: Form,
     count: u32,
     lines: &mut LineReader,
+    into: &mut ArrayVec<u8, 1024>,
     from: &mut S,
 ) -> Result<Vec<u8>, BundleFault>
     requires begins { pending lines.old ≡ [] }
@@ -97,7 +105,7 @@ fn plain_file<S: Source>(
     ensures failed { IfErr result (λ fault. fault ≡ BundleFault.ReadFault → Rose (S.faults from.old) (S.faults from.new)) }
 {
     let mut bytes = Vec::new(alloc);
-    match read_part(alloc, form, count, lines, from, &mut bytes) {
+    match read_part(alloc, form, count, lines, into, from, &mut bytes) {
         Ok(PartEnd::Whole) => Ok(bytes),
         Ok(PartEnd::Broken { kind, line }) => Err(BundleFault::At { kind, line }),
         Err(fault) => Err(fault),
@@ -109,6 +117,7 @@ fn source_file<S: Source>(
     alloc: Global,
     count: u32,
     lines: &mut LineReader,
+    into: &mut ArrayVec<u8, 1024>,
     from: &mut S,
 ) -> Result<Vec<u8>, BundleFault>
     requires begins { pending lines.old ≡ [] }
@@ -124,7 +133,7 @@ fn source_file<S: Source>(
 {
     let number = lines.line();
     let mut text = Vec::new(alloc);
-    match read_part(alloc, Form::Asm, count, lines, from, &mut text) {
+    match read_part(alloc, Form::Asm, count, lines, into, from, &mut text) {
         Ok(PartEnd::Whole) => file_of(alloc, number, text.as_slice()),
         Ok(PartEnd::Broken { kind, line }) => {
             Err(front_fault(alloc, number, text.as_slice(), kind, line))

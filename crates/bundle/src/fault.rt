@@ -32,3 +32,12 @@ pub enum BundleFault {
     /// Host memory ran out.
     NoMemory,
 }
+
+/// Why a path wasn't added.
+#[derive(Clone, Copy)]
+pub enum NotAdded {
+    /// No entry may have it, for this reason.
+    Refused(BundleKind),
+    /// Host memory ran out.
+    NoMemory,
+}

@@ -7,6 +7,7 @@
 mod contents;
 mod entry;
 mod fault;
+mod key;
 mod known;
 mod lines;
 mod parts;

@@ -24,13 +24,14 @@ pub enum PartEnd {
     Broken { kind: BundleKind, line: u32 },
 }
 
-/// Reads so many lines, and adds what they give to `bytes`. The source loses these lines and no byte more; where one is wrong,
+/// Reads so many lines, each into `into`, and adds what they give to `bytes`. The source loses these lines and no byte more; where one is wrong,
 /// none after it is read.
 pub fn read_part<S: Source>(
     alloc: Global,
     form: Form,
     count: u32,
     lines: &mut LineReader,
+    into: &mut ArrayVec<u8, 1024>,
     from: &mut S,
     bytes: &mut Vec<u8>,
 ) -> Result<PartEnd, BundleFault>
@@ -45,15 +46,14 @@ pub fn read_part<S: Source>(
     ensures counted { S.faults from.old ≤ S.faults from.new }
     ensures failed { IfErr result (λ fault. fault ≡ BundleFault.ReadFault → Rose (S.faults from.old) (S.faults from.new)) }
 {
-    let mut line = ArrayVec::new();
     let mut done = 0u32;
     'reading: while done < count {
-        match read_line(lines, from, &mut line) {
+        match read_line(lines, from, into) {
             Ok(()) => {}
             Err(BundleFault::At { kind, line }) => return Ok(PartEnd::Broken { kind, line }),
             Err(fault) => return Err(fault),
         }
-        match add_line(alloc, form, line.as_slice(), bytes) {
+        match add_line(alloc, form, into.as_slice(), bytes) {
             Ok(true) => {}
             Ok(false) => {
                 return Ok(PartEnd::Broken {

@@ -1,22 +1,25 @@
 //! The reader of a bundle.
 
-ghost use Rattle.std.specs.Prelude.{◌≡◌, ◌≢◌, ◌+◌, ◌-◌, ◌*◌, ◌^◌, ◌<◌, ◌≤◌, [], IfOk, OnOk, IfErr, OnErr, IfSome};
+ghost use Rattle.std.specs.Prelude.{◌≡◌, ◌≢◌, ◌+◌, ◌-◌, ◌*◌, ◌^◌, ◌<◌, ◌≤◌, [], option_map, IfOk, OnOk, IfErr, OnErr, IfSome};
 ghost use Rattle.std.specs.Option.{option_to_list};
 ghost use Rattle.kn_io.specs.Faults.{Rose};
 ghost use Rattle.kn_text.specs.Lines as lines;
 ghost use Rattle.kn_text.specs.Lines.{lines_begun};
 ghost use Rattle.bundle.specs.Bundles.{start};
 ghost use Rattle.bundle.specs.Contents.{Content, made_of};
+ghost use Rattle.bundle.specs.EntryLines.{makes_directory};
+ghost use Rattle.bundle.specs.Keys.{known_of};
+ghost use Rattle.bundle.specs.Paths as paths;
 ghost use Rattle.bundle.specs.Paths.{with_path};
 ghost use Rattle.bundle.specs.Streams.{CountsSame, TakesEntry, FailsEntry, Begins, FailsToBegin, Says, SaysNothing, TakesGiven, FailsToMake};
-ghost use Rattle.bundle.specs.Views.{AreFew, IsContent, IsEntry, IsOpen, known_of, pending, place_of, what_view};
+ghost use Rattle.bundle.specs.Views.{AreFew, IsContent, IsEntry, IsOpen, named_view, pending, place_of, what_view};
 
 use crate::contents::content;
 use crate::entry::{Bytes, Entry};
-use crate::fault::{BundleFault, BundleKind};
+use crate::fault::{BundleFault, BundleKind, NotAdded};
 use crate::known::Known;
 use crate::lines::read_line;
-use crate::said::{Said, entry_line};
+use crate::said::{Named, entry_line};
 use arrayvec::ArrayVec;
 use kn_io::{NoMemory, Source};
 use kn_text::LineReader;
@@ -35,6 +38,7 @@ const MOST_ENTRIES: u32 = 4096;
 #[derive(Drop)]
 pub struct BundleReader {
     lines: LineReader,
+    line: ArrayVec<u8, 1024>,
     room: u32,
     known: Known,
 }
@@ -53,6 +57,7 @@ impl BundleReader {
         match Known::new(alloc) {
             Ok(known) => Ok(BundleReader {
                 lines: lines_behind(first),
+                line: ArrayVec::new(),
                 room: MOST_ENTRIES,
                 known,
             }),
@@ -75,28 +80,31 @@ impl BundleReader {
         if self.lines.line() != 0 {
             return Ok(());
         }
-        let mut line = ArrayVec::new();
-        match read_line(&mut self.lines, from, &mut line) {
+        match read_line(&mut self.lines, from, &mut self.line) {
             Ok(()) => {}
             Err(fault) => return Err(fault),
         }
-        if line.as_slice() == FIRST_LINE {
+        if self.line.as_slice() == FIRST_LINE {
             Ok(())
         } else {
             Err(self.refused(BundleKind::Syntax))
         }
     }
 
-    // The entry that the line says that was read last, or None where it is the last of the bundle.
+    // The entry that the line says that was read last, or None where it is the last of the bundle. Its path is known from now
+    // on.
     #[tactic(auto, unfolding(crate::specs::Bundles::accepted, crate::specs::Bundles::line_said))]
-    fn accepted<'a>(&self, line: &'a [u8]) -> Result<Option<Said<'a>>, BundleFault>
-        ensures says { IfOk result (Says self.now.room (known_of self.now.known.paths) (lines_begun self.now.lines) line.now) }
-        ensures nothing { IfErr result (SaysNothing self.now.room (known_of self.now.known.paths) (lines_begun self.now.lines) line.now) }
-        ensures room { IfOk result (λ told. IfSome told (λ said. 0 < self.now.room)) }
-        ensures few { IfOk result (λ told. IfSome told (λ said. AreFew said.what)) }
+    fn accepted(&mut self, alloc: Global) -> Result<Option<Named>, BundleFault>
+        ensures says { IfOk result (λ told. Says self.old.room (known_of self.old.known.paths) (lines_begun self.old.lines) self.old.line.items (option_map named_view told)) }
+        ensures nothing { IfErr result (SaysNothing self.old.room (known_of self.old.known.paths) (lines_begun self.old.lines) self.old.line.items) }
+        ensures known { IfOk result (λ told. IfSome told (λ named. known_of self.new.known.paths ≡ with_path (known_of self.old.known.paths) named.path (makes_directory (what_view named.what)))) }
+        ensures room { IfOk result (λ told. IfSome told (λ named. 0 < self.old.room)) }
+        ensures few { IfOk result (λ told. IfSome told (λ named. AreFew named.what)) }
+        ensures same_lines { self.new.lines ≡ self.old.lines }
+        ensures same_room { self.new.room ≡ self.old.room }
         ensures unread { IfErr result (λ fault. fault ≢ BundleFault.ReadFault) }
     {
-        if line == LAST_LINE {
+        if self.line.as_slice() == LAST_LINE {
             if self.known.has_init() {
                 return Ok(None);
             }
@@ -105,13 +113,21 @@ impl BundleReader {
         if self.room == 0 {
             return Err(self.refused(BundleKind::TooLong));
         }
-        let told = match entry_line(line) {
+        let told = match entry_line(self.line.as_slice()) {
             Some(told) => told,
             None => return Err(self.refused(BundleKind::Syntax)),
         };
-        match self.known.allowed(told.path) {
-            Ok(()) => Ok(Some(told)),
-            Err(kind) => Err(self.refused(kind)),
+        match self.known.add(alloc, told.path, told.what.is_directory()) {
+            Ok(()) => {}
+            Err(NotAdded::Refused(kind)) => return Err(self.refused(kind)),
+            Err(NotAdded::NoMemory) => return Err(BundleFault::NoMemory),
+        }
+        match Vec::from_slice(alloc, told.path) {
+            Ok(path) => Ok(Some(Named {
+                path: Bytes::new(path),
+                what: told.what,
+            })),
+            Err(_) => Err(BundleFault::NoMemory),
         }
     }
 
@@ -125,19 +141,19 @@ impl BundleReader {
         }
     }
 
-    // The entry of a line, made from what follows it, and its path is known from now on.
+    // The entry of a line, made from what follows it.
     fn entry_of<S: Source>(
         &mut self,
         alloc: Global,
-        told: Said<'_>,
+        named: Named,
         from: &mut S,
     ) -> Result<Entry, BundleFault>
         requires begins { lines.pending self.old.lines ≡ [] }
-        requires few_lines { AreFew told.what }
+        requires few_lines { AreFew named.what }
         requires room { 0 < self.old.room }
         requires fits { lines_begun self.old.lines ≤ 409604097 }
-        ensures given { IfOk result (λ entry. TakesGiven (place_of self.old) told.entry (S.left from.old) entry (place_of self.new) (S.left from.new)) }
-        ensures fault { IfErr result (FailsToMake (λ bytes. made_of (lines_begun self.old.lines) (what_view told.entry.what) bytes) (S.left from.old)) }
+        ensures given { IfOk result (λ entry. (known : paths.Known) → known_of self.old.known.paths ≡ with_path known named.path (makes_directory (what_view named.what)) → TakesGiven (record { line = lines_begun self.old.lines; room = self.old.room; known = known }) (named_view named) (S.left from.old) entry (place_of self.new) (S.left from.new)) }
+        ensures fault { IfErr result (FailsToMake (λ bytes. made_of (lines_begun self.old.lines) (what_view named.what) bytes) (S.left from.old)) }
         ensures pending { lines.pending self.new.lines ≡ [] }
         ensures few { OnOk result (lines_begun self.new.lines ≤ lines_begun self.old.lines + 100000) }
         ensures room_left { OnOk result (self.new.room + 1 ≡ self.old.room) }
@@ -146,39 +162,12 @@ impl BundleReader {
         ensures failed { IfErr result (λ fault. fault ≡ BundleFault.ReadFault → Rose (S.faults from.old) (S.faults from.new)) }
     {
         let line = self.lines.line();
-        let file = match content(alloc, told.what, &mut self.lines, from) {
+        let file = match content(alloc, named.what, &mut self.lines, &mut self.line, from) {
             Ok(file) => file,
             Err(fault) => return Err(fault),
         };
-        let path = match self.add(alloc, told.path, file.is_none()) {
-            Ok(path) => path,
-            Err(_) => return Err(BundleFault::NoMemory),
-        };
-        Ok(entry(path, file, line))
-    }
-
-    // Makes a path known, and gives it as bytes of its own.
-    fn add(&mut self, alloc: Global, path: &[u8], is_directory: bool) -> Result<Bytes, NoMemory>
-        requires { 0 < self.old.room }
-        ensures given { IfOk result (λ given. given ≡ path.now) }
-        ensures known { OnOk result (known_of self.new.known.paths ≡ with_path (known_of self.old.known.paths) path.now is_directory) }
-        ensures room { OnOk result (self.new.room + 1 ≡ self.old.room) }
-        ensures lines { self.new.lines ≡ self.old.lines }
-    {
-        let kept = match Vec::from_slice(alloc, path) {
-            Ok(kept) => kept,
-            Err(_) => return Err(NoMemory),
-        };
-        let given = match Vec::from_slice(alloc, path) {
-            Ok(given) => given,
-            Err(_) => return Err(NoMemory),
-        };
-        match self.known.insert(kept, is_directory) {
-            Ok(()) => {}
-            Err(_) => return Err(NoMemory),
-        }
         self.room -= 1;
-        Ok(Bytes::new(given))
+        Ok(entry(named.path, file, line))
     }
 }
 
@@ -235,17 +224,16 @@ pub fn next_entry<S: Source>(
         Ok(()) => {}
         Err(fault) => return Err(fault),
     }
-    let mut line = ArrayVec::new();
-    match read_line(&mut reader.lines, from, &mut line) {
+    match read_line(&mut reader.lines, from, &mut reader.line) {
         Ok(()) => {}
         Err(fault) => return Err(fault),
     }
-    let told = match reader.accepted(line.as_slice()) {
-        Ok(Some(told)) => told,
+    let named = match reader.accepted(alloc) {
+        Ok(Some(named)) => named,
         Ok(None) => return Ok(None),
         Err(fault) => return Err(fault),
     };
-    match reader.entry_of(alloc, told, from) {
+    match reader.entry_of(alloc, named, from) {
         Ok(entry) => Ok(Some(entry)),
         Err(fault) => Err(fault),
     }

@@ -1,11 +1,12 @@
 //! What one line of a bundle says.
 
-ghost use Rattle.std.specs.Prelude.{◌≡◌, ◌≤◌, ◌<◌, length, position, option_map, IfSome};
+ghost use Rattle.std.specs.Prelude.{◌≡◌, ◌≤◌, ◌<◌, length, position, option_map, IfSome, None};
 ghost use Rattle.unix_model.specs.Texts as texts;
 ghost use Rattle.userland.specs.Programs.{source_named};
 ghost use Rattle.bundle.specs.EntryLines as model;
 ghost use Rattle.bundle.specs.Views.{halves_view, said_view, AreFew, what_view};
 
+use crate::entry::Bytes;
 use kn_text::number_of;
 use userland::program;
 
@@ -32,6 +33,26 @@ pub enum What {
     Part { form: Form, lines: u32 },
     /// A source of the userland.
     Program { source: &'static [u8] },
+}
+
+impl What {
+    /// Whether it is to be a directory.
+    pub fn is_directory(self) -> bool
+        ensures { result ≡ model.makes_directory (what_view self) }
+    {
+        match self {
+            What::Directory => true,
+            What::Part { .. } => false,
+            What::Program { .. } => false,
+        }
+    }
+}
+
+/// An entry's path, and what it is to be made from.
+#[derive(Drop)]
+pub struct Named {
+    pub path: Bytes,
+    pub what: What,
 }
 
 /// What an entry line says.
@@ -85,19 +106,18 @@ fn dir_line(operands: &[u8]) -> Option<Said<'_>>
 }
 
 // A file whose lines follow.
-#[tactic(auto, unfolding(crate::specs::EntryLines::part_line))]
+#[tactic(auto, unfolding(crate::specs::EntryLines::part_line, crate::specs::EntryLines::word))]
 fn part_line(form: Form, operands: &[u8]) -> Option<Said<'_>>
     ensures says { option_map said_view result ≡ model.part_line form operands.now }
     ensures few { IfSome result (λ told. AreFew told.what) }
 {
-    let (front, behind) = match halves_of(operands) {
+    let (path, behind) = match halves_of(operands) {
         Some(halves) => halves,
         None => return None,
     };
-    let path = match word(front) {
-        Some(path) => path,
-        None => return None,
-    };
+    if path.is_empty() {
+        return None;
+    }
     match line_count(behind) {
         Some(lines) => Some(Said {
             path,
@@ -108,19 +128,18 @@ fn part_line(form: Form, operands: &[u8]) -> Option<Said<'_>>
 }
 
 // A program of the userland.
-#[tactic(auto, unfolding(crate::specs::EntryLines::user_line))]
+#[tactic(auto, unfolding(crate::specs::EntryLines::user_line, crate::specs::EntryLines::word))]
 fn user_line(operands: &[u8]) -> Option<Said<'_>>
     ensures says { option_map said_view result ≡ model.user_line operands.now }
     ensures few { IfSome result (λ told. AreFew told.what) }
 {
-    let (front, behind) = match halves_of(operands) {
+    let (path, behind) = match halves_of(operands) {
         Some(halves) => halves,
         None => return None,
     };
-    let path = match word(front) {
-        Some(path) => path,
-        None => return None,
-    };
+    if path.is_empty() {
+        return None;
+    }
     match program(behind) {
         Some(source) => Some(Said {
             path,
@@ -142,8 +161,10 @@ fn line_count(text: &[u8]) -> Option<u32>
 }
 
 // What stands before and behind the first space.
+#[tactic(auto, using(crate::proofs::WordLaws::no_space))]
 fn halves_of(text: &[u8]) -> Option<(&[u8], &[u8])>
-    ensures { option_map halves_view result ≡ model.halves_of text.now }
+    ensures halves { option_map halves_view result ≡ model.halves_of text.now }
+    ensures front { IfSome result (λ halves. position model.is_space halves.0.now ≡ None) }
 {
     match first_space(text) {
         Some(at) => Some((&text[..at], &text[at + 1..])),

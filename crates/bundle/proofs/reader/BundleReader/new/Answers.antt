@@ -1,6 +1,6 @@
 use Rattle.std.proofs.Common.{refl}
 use Rattle.kn_text.specs.Lines.{lines_begun}
-use Rattle.bundle.specs.Views.{known_of}
+use Rattle.bundle.specs.Keys.{known_of}
 use Rattle.bundle.proofs.BeginLaws.{starts}
 use Rattle.bundle.proofs.reader.BundleReader.new.Goals as goal
 

@@ -1,6 +1,0 @@
-use Rattle.std.proofs.Common.{◌≡◌, ℕ, ◌<◌, false, get_or}
-use Rattle.unix_model.specs.Paths.{is_slash}
-use Rattle.bundle.proofs.paths.next_slash.Given as goal
-
-abbrev pub invariant-loop-i : goal.invariant-loop-i
-invariant-loop-i l = (k : ℕ) → k < l.i → is_slash (get_or l.bytes k 0) ≡ false
