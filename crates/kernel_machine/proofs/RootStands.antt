@@ -1,5 +1,5 @@
 -- What stands but one thing goes along with rows of inodes that get and give up their roots.
-use Rattle.std.proofs.Common.{◌≡◌, ◌≢◌, ◌⊎◌, ◌<◌, ℕ, zero, suc, Option, Some, None, true, false, List, [], ◌∷◌, length, set, slice_index_or, refl, sym, ap, subst, ◌∙◌, arith, ⊎_elim, inl, inr}
+use Rattle.std.proofs.Common.{◌≡◌, ◌≢◌, ◌⊎◌, ◌<◌, ℕ, Option, Some, None, true, false, List, [], length, set, slice_index_or, refl, sym, ap, subst, ◌∙◌, arith, ⊎_elim, inl, inr}
 use Rattle.std.specs.Option.{is_some}
 use Rattle.std.proofs.lemmas.Bool.{cases_eq}
 use Rattle.std.proofs.lemmas.List.{get_or-set_same, set-set}
@@ -31,6 +31,7 @@ use Rattle.kernel_machine.specs.Trees.{HasTree, IsRootOf, RootsGood}
 use Rattle.kernel_machine.proofs.LooseLaws.{loose-root, nothing_loose, ring-or-not, ring-word, tree-or-not, tree-word, word-no-space, word-ring, word-tree}
 use Rattle.kernel_machine.proofs.MachineLaws.{inode_written}
 use Rattle.kernel_machine.proofs.OwnerLaws.{owned-in-bank}
+use Rattle.kernel_machine.proofs.TallyLaws.{row-inside}
 
 -- ---- what has a root
 
@@ -270,11 +271,9 @@ standing_with_root old new number row inside now exchanges good is standing = ro
 
 -- ---- a new inode
 
--- a row that is there is one of the table
-index-used : (rows : List (Row Inode)) (number : ℕ) → slice_index_or rows number Unspelled ≡ Free → number < length rows
-index-used [] number e = cc
-index-used (row ∷ rows) zero e = omega arith
-index-used (row ∷ rows) (suc n) e = let h = index-used rows n e in omega arith
+-- a free row is one of the table
+free-inside : (rows : List (Row Inode)) (number : ℕ) → slice_index_or rows number Unspelled ≡ Free → number < length rows
+free-inside rows number free = row-inside rows number (λ same. let no : Free ≡ Unspelled = sym free ∙ same in cc)
 
 -- a fresh inode has nothing
 fresh-word : (kind : InodeKind) → word_of kind 0 ≡ Nothing
@@ -295,7 +294,7 @@ module _ (old new : Kernel) (kind : InodeKind) (number : ℕ) (loose : Loose) (t
   fresh = fresh_inode kind
 
   inside-rows : number < length old.inodes
-  inside-rows = index-used old.inodes number takes.was_free
+  inside-rows = free-inside old.inodes number takes.was_free
 
   inodes-fresh : inodes_of new ≡ with_at (inodes_of old) number (Some fresh)
   unfolding machine_of fresh
@@ -411,7 +410,7 @@ standing_with_new_inode old new kind number loose takes apart named good standin
 module _ (old mid new : Kernel) (number page : ℕ) (row : Inode) (takes : TakesInode old mid Pipe number) (written : new ≡ record mid { inodes = set mid.inodes number (Used row) })
     (named : named_by mid.inodes ≡ named_by old.inodes) (exchanges : ExchangesRoots mid new number (Used row)) (kind : row.kind ≡ Pipe) (root : row.root ≡ page) (standing : StandingBut old (Ring page)) where
   in-rows : number < length old.inodes
-  in-rows = index-used old.inodes number takes.was_free
+  in-rows = free-inside old.inodes number takes.was_free
 
   both-written : new ≡ record old { inodes = set old.inodes number (Used row) }
   both-written =
