@@ -206,14 +206,11 @@ module _ (old : Kernel) (slot root number : ℕ) (description : Option ℕ) (has
 
 pub counts_with_descriptor : law.CountsWithDescriptor
 unfolding view mine machine_of inodes_of descriptions_of
-counts_with_descriptor old new slot root number description offs writes now has below counts =
+counts_with_descriptor old new slot root number was description offs writes now is has below counts =
     let low = slot-below old slot root has.0 in
     let by = to-state old offs counts in
     by-state new (record offs {
-      descriptors = record {
-        raise = numbers_of description ++ offs.descriptors.raise;
-        lower = numbers_of (at (at (domains old) root).descriptors number) ++ offs.descriptors.lower;
-      };
+      descriptors = record { raise = numbers_of description ++ offs.descriptors.raise; lower = numbers_of was ++ offs.descriptors.lower };
     }) (inodes_of old) (descriptions_of old) (with_process (view (machine_of old)) slot (process_in (machine_of old) (mine old slot root number description has.0 low below)))
     (ap inodes_of writes.rest) (ap descriptions_of writes.rest)
     (domain_set old new slot root (mine old slot root number description has.0 low below) writes now has)
@@ -224,9 +221,10 @@ counts_with_descriptor old new slot root number description offs writes now has 
           let a = by.by_descriptors n in
           let b = counted-now old slot root number description has.0 low below n in
           let c = times-append n (numbers_of description) offs.descriptors.raise in
-          let d = times-append n (numbers_of (at (at (domains old) root).descriptors number)) offs.descriptors.lower in
+          let d = times-append n (numbers_of was) offs.descriptors.lower in
           let e = numbers-times n description in
-          let f = numbers-times n (at (at (domains old) root).descriptors number) in
+          let f = numbers-times n was in
+          let g = ap (λ held. one_if (names_description n held)) is in
           omega arith;
     })
 

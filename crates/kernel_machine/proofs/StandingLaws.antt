@@ -25,7 +25,7 @@ use Rattle.kernel_forest.proofs.Bridge.{page_inside}
 use Rattle.kernel_forest.proofs.Moves.{bank_page as its_page}
 use Rattle.kernel_forest.specs.Trees.{forest_of, outside_trees, page_tree, TreesGood}
 use Rattle.file_tables.specs.Roots.{named_by, root_key, word_key}
-use Rattle.file_tables.specs.Rows.{InodesGood}
+use Rattle.file_tables.specs.Rows.{InodesGood, DescriptionsGood}
 use Rattle.file_tables.proofs.RootLaws.{kept, trees_beside}
 use Rattle.domain.specs.Domains.{Domain, Life, domains, domain_at, full_domain}
 use Rattle.domain.specs.Keys.{is_meter, node_in}
@@ -332,7 +332,7 @@ standing_with_description old new descriptions e good standing = subst (λ (k : 
       rows = standing.rows;
       nodes_held = standing.nodes_held;
       inodes = standing.inodes;
-      descriptions = good;
+      descriptions = subst (λ (k : Kernel). DescriptionsGood k.descriptions) e good;
       holdings = standing.holdings;
       roots = standing.roots;
       keepers = standing.keepers;

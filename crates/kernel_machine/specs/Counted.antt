@@ -139,16 +139,13 @@ numbers_of (Some number) = number ∷ []
 -- A descriptor was set, or cleared: the description that it names is to be raised, and the one that it named to be lowered.
 abbrev pub CountsWithDescriptor : Type 0
 CountsWithDescriptor =
-    (old new : Kernel) (slot root number : ℕ) (description : Option ℕ) (offs : Offs)
+    (old new : Kernel) (slot root number : ℕ) (was description : Option ℕ) (offs : Offs)
     → WritesNumbers old new
     → domains new ≡ with_at (domains old) root (record (at (domains old) root) { descriptors = with_at (at (domains old) root).descriptors number description })
-    → HasRoot (machine_of old) slot root → number < descriptor_count
+    → at (at (domains old) root).descriptors number ≡ was → HasRoot (machine_of old) slot root → number < descriptor_count
     → CountsOff old offs
     → CountsOff new (record offs {
-      descriptors = record {
-        raise = numbers_of description ++ offs.descriptors.raise;
-        lower = numbers_of (at (at (domains old) root).descriptors number) ++ offs.descriptors.lower;
-      };
+      descriptors = record { raise = numbers_of description ++ offs.descriptors.raise; lower = numbers_of was ++ offs.descriptors.lower };
     })
 
 -- ---- descriptions

@@ -112,7 +112,7 @@ StandingWithInode =
 abbrev pub StandingWithDescription : Type 0
 StandingWithDescription =
     (old new : Kernel) (descriptions : List (Row Description))
-    → new ≡ record old { descriptions = descriptions } → DescriptionsGood descriptions → Standing old → Standing new
+    → new ≡ record old { descriptions = descriptions } → DescriptionsGood new.descriptions → Standing old → Standing new
 
 -- The next process id, the position or the promised pages are other ones.
 abbrev pub StandingWithWords : Type 0

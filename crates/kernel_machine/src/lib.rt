@@ -27,7 +27,9 @@ pub use counts::{
     counts_with_process, counts_with_space_set, counts_with_state, counts_without_description,
     counts_without_inode, name_added, name_changed, names_kept, raised_and_lowered,
 };
-pub use keeps::{fixed_with_birth, fixed_with_rows, trees_with_birth, trees_with_numbers};
+pub use keeps::{
+    fixed_with_birth, fixed_with_rows, store_is_whole, trees_with_birth, trees_with_numbers,
+};
 pub use loose::{
     nothing_loose, standing_with_domain, standing_with_loose, standing_with_new_inode,
     standing_with_page, standing_with_pipe, standing_with_root, standing_with_space,
