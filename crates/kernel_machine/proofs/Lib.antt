@@ -28,10 +28,5 @@ pub mod PageStands
 pub mod RootStands
 pub mod OwnerLaws
 pub mod BufferStands
-pub mod TallyLaws
-pub mod CountsStand
-pub mod NamesStand
-pub mod ExactCounts
 pub mod BirthStands
 pub mod EndStands
-pub mod DomainCounts

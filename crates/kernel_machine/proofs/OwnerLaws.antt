@@ -1,5 +1,5 @@
 -- Who owns pages that belong to no tree, and how that goes along with a page that is taken or given back.
-use Rattle.std.proofs.Common.{◌≡◌, ◌≢◌, ◌<◌, ◌≤◌, ◌+◌, ◌-◌, ℕ, Some, None, true, false, nat_lt, List, [], length, set, get_or, refl, sym, ap, ◌∙◌, arith, ⊎_elim}
+use Rattle.std.proofs.Common.{◌≡◌, ◌≢◌, ◌<◌, ◌≤◌, ◌+◌, ◌-◌, ℕ, suc, zero, Some, None, true, false, nat_lt, List, [], ◌∷◌, length, set, get_or, refl, sym, ap, ◌∙◌, arith, ⊎_elim}
 use Rattle.std.specs.Prelude.{if◌then◌else◌}
 use Rattle.std.specs.Option.{IsSome, is_some}
 use Rattle.std.proofs.lemmas.Bool.{cases_Bool, cases_eq, cases_lt, lt-ltb, le-ltb, ne_eqb}
@@ -8,6 +8,8 @@ use Rattle.kn_base.specs.declared.key.Key.TheVariants.{Page}
 use Rattle.kernel_tables.specs.declared.entry.Entry.{Entry}
 use Rattle.kernel_tables.specs.declared.entry.Entry.TheVariants.{Free, Taken, Fixed, Unspelled}
 use Rattle.kernel_tables.specs.declared.entry.PageOwner.{PageOwner}
+use Rattle.kernel_tables.specs.declared.row.Row.{Row}
+use Rattle.kernel_tables.specs.declared.row.Row.TheVariants.{Unspelled as UnspelledRow}
 use Rattle.kernel_tables.specs.Kernel.{Kernel, kernel_of, first_page}
 use Rattle.kernel_tables.proofs.Sizes.{length-bank_page}
 use Rattle.kernel_tables.specs.Rows.{entry_at}
@@ -140,3 +142,11 @@ store_is_whole memory good whole page low =
     let same : first_page (kernel_of memory).size + page - first_page (kernel_of memory).size ≡ page = omega arith in
     ap (λ n. length (get_or (kernel_of memory).bank n [])) (sym same)
     ∙ length-bank_page memory (first_page (kernel_of memory).size + page) good.sized (record { low = omega arith; high = omega arith }) whole
+
+-- ---- rows
+
+-- a row that is spelled is one of the table
+pub row-inside : {X : Type 0} (rows : List (Row X)) (number : ℕ) → get_or rows number UnspelledRow ≢ UnspelledRow → number < length rows
+row-inside [] number spelled = absurd (spelled refl)
+row-inside (row ∷ rows) zero spelled = omega arith
+row-inside (row ∷ rows) (suc n) spelled = let h = row-inside rows n spelled in omega arith

@@ -30,8 +30,7 @@ use Rattle.kernel_machine.specs.Standing.{page_owners}
 use Rattle.kernel_machine.specs.Trees.{HasTree, IsRootOf, RootsGood}
 use Rattle.kernel_machine.proofs.LooseLaws.{loose-root, nothing_loose, ring-or-not, ring-word, tree-or-not, tree-word, word-no-space, word-ring, word-tree}
 use Rattle.kernel_machine.proofs.MachineLaws.{inode_written}
-use Rattle.kernel_machine.proofs.OwnerLaws.{owned-in-bank}
-use Rattle.kernel_machine.proofs.TallyLaws.{row-inside}
+use Rattle.kernel_machine.proofs.OwnerLaws.{owned-in-bank, row-inside}
 
 -- ---- what has a root
 
@@ -47,7 +46,7 @@ unfolding first_page
 ring-real kernel page owned same = let low = owned-in-bank kernel page PipePage owned in absurd (omega arith)
 
 -- the root of a row that has a tree, and of a pipe
-tree-root : (kernel : Kernel) (inode : Inode) (kind : InodeKind) → HasTree kind → inode.root ≢ 0 → IsRootOf (forest_of kernel) (memory_page kernel) (page_owners kernel) inode kind
+pub tree-root : (kernel : Kernel) (inode : Inode) (kind : InodeKind) → HasTree kind → inode.root ≢ 0 → IsRootOf (forest_of kernel) (memory_page kernel) (page_owners kernel) inode kind
     → IsTaken (forest_of kernel) (page_owners kernel) (Tree inode.root)
 tree-root kernel inode File tree some is = let h = is some in (h.0, h.1)
 tree-root kernel inode Dir tree some is = let h = is some in (h.0, h.1)

@@ -11,5 +11,4 @@ pub mod Laws
 pub mod Keeps
 pub mod Standing
 pub mod Loose
-pub mod Counted
 pub mod Bounds

@@ -4,7 +4,6 @@
 mod bounds;
 mod calls;
 mod changes;
-mod counts;
 mod keeps;
 mod loose;
 mod standing;
@@ -19,13 +18,6 @@ pub use calls::{description_set, domain_set, inode_set, life_set, roots_differ};
 pub use changes::{
     description_written, files_written, inode_written, key_handed_over, numbers_written,
     spaces_changed,
-};
-pub use counts::{
-    counts_are_exact, counts_even, counts_settle, counts_with_birth, counts_with_bytes,
-    counts_with_description, counts_with_descriptor, counts_with_end, counts_with_gone,
-    counts_with_inode, counts_with_new_description, counts_with_new_inode, counts_with_numbers,
-    counts_with_process, counts_with_space_set, counts_with_state, counts_without_description,
-    counts_without_inode, name_added, name_changed, names_kept, raised_and_lowered,
 };
 pub use keeps::{
     fixed_with_birth, fixed_with_rows, store_is_whole, trees_with_birth, trees_with_numbers,

@@ -1,5 +1,0 @@
-use Rattle.kernel_machine.proofs.NamesStand.{counts_with_bytes}
-use Rattle.kernel_machine.proofs.counts.counts_with_bytes.Goals as goal
-
-pub returns : goal.returns
-returns c = counts_with_bytes

@@ -1,5 +1,0 @@
-use Rattle.kernel_machine.proofs.CountsStand.{counts_with_new_description}
-use Rattle.kernel_machine.proofs.counts.counts_with_new_description.Goals as goal
-
-pub returns : goal.returns
-returns c = counts_with_new_description

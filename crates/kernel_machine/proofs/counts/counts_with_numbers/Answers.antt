@@ -1,5 +1,0 @@
-use Rattle.kernel_machine.proofs.CountsStand.{counts_with_numbers}
-use Rattle.kernel_machine.proofs.counts.counts_with_numbers.Goals as goal
-
-pub returns : goal.returns
-returns c = counts_with_numbers
