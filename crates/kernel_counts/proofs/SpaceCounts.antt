@@ -34,8 +34,7 @@ use Rattle.kernel_machine.proofs.AddStands.{outside-owned}
 use Rattle.kernel_machine.proofs.BufferStands.{buffer-memory, gone-memory}
 use Rattle.kernel_machine.proofs.HeldLaws.{stays}
 use Rattle.kernel_machine.proofs.LooseLaws.{not-loose}
-use Rattle.kernel_machine.proofs.MemoryLaws.{memory-kept}
-use Rattle.kernel_machine.proofs.RootStands.{tree-root}
+use Rattle.kernel_machine.proofs.MemoryLaws.{memory-kept, tree-of}
 use Rattle.kernel_machine.proofs.SpacesStand.{memory-by-map}
 use Rattle.kernel_machine.proofs.SpacesStand as spaces
 
@@ -87,7 +86,7 @@ spaces-counted old new offs rows inodes descriptions trees counts =
 -- the tree of an inode is a space
 its-space : (kernel : Kernel) → RootsGood (forest_of kernel) (memory_page kernel) (page_owners kernel) (inodes_of kernel) → (number : ℕ) (inode : Inode) → at (inodes_of kernel) number ≡ Some inode
     → HasTree inode.kind → inode.root ≢ 0 → IsSpace (forest_of kernel) [] inode.root × ((forest_of kernel).owner (NodeObject inode.root) ≡ Some OfFile)
-its-space kernel good number inode found tree some = tree-root kernel inode inode.kind tree some (good.each number inode found)
+its-space kernel good number inode found tree some = tree-of (forest_of kernel) (memory_page kernel) (page_owners kernel) inode inode.kind (good.each number inode found) tree some
 
 pub counts_with_memory : law.CountsWithMemory
 unfolding inodes_of descriptions_of

@@ -10,6 +10,7 @@ use Rattle.space_bank.specs.Laws.{and_outside}
 use Rattle.space_bank.specs.Shares.{Outside}
 use Rattle.forest.specs.Walks.{space_key}
 use Rattle.kernel_forest.specs.Trees.{TreesGood}
+use Rattle.domain.specs.Ends.{DropsDomain}
 use Rattle.domain.specs.Life.{MakesDomain}
 use Rattle.domain.specs.Sets.{WritesNumbers}
 use Rattle.kernel_machine.specs.Held.{AllWhole}
@@ -35,8 +36,14 @@ StoreIsWhole =
 abbrev pub FixedWithRows : Type 0
 FixedWithRows = (old new : Kernel) → BankGood old → BankGood new → fixed_rows new ≡ fixed_rows old → FixedNodes old.keys → FixedNodes new.keys
 
--- .. and also where a domain was made.
+-- .. also where a domain was made, ..
 abbrev pub FixedWithBirth : Type 0
 FixedWithBirth =
     (old new : Kernel) (slot space root : ℕ) → slot < 64 → BankGood old → BankGood new → MakesDomain old new slot space root
+    → FixedNodes old.keys → FixedNodes new.keys
+
+-- .. and where one was dropped.
+abbrev pub FixedWithGone : Type 0
+FixedWithGone =
+    (old new : Kernel) (slot root : ℕ) → slot < 64 → BankGood old → BankGood new → DropsDomain old new slot root
     → FixedNodes old.keys → FixedNodes new.keys
