@@ -1,20 +1,30 @@
 -- Calls on spaces and buffers leave the counts.
-use Rattle.std.proofs.Common.{◌≡◌, ◌≢◌, ◌+◌, ℕ, true, false, Option, Some, None, List, [], refl, sym, ap, subst, ◌∙◌}
+use Rattle.std.proofs.Common.{◌≡◌, ◌≢◌, ◌+◌, ◌-◌, ℕ, true, false, Option, Some, None, List, [], refl, sym, ap, ap₂, subst, ◌∙◌}
 use Rattle.std.specs.Prelude.{◌/◌, ◌==◌, if◌then◌else◌, is_some, option_map}
 use Rattle.std.specs.List.{count_by}
 use Rattle.std.proofs.Math.Path.{fun_ext}
 use Rattle.kernel_tables.specs.declared.inode.Inode.{Inode}
 use Rattle.kernel_tables.specs.declared.inode.InodeKind.{InodeKind}
 use Rattle.kernel_tables.specs.declared.inode.InodeKind.TheVariants.{File, Dir, Pipe, Console}
-use Rattle.kernel_tables.specs.Kernel.{Kernel, memory_page}
+use Rattle.kn_base.specs.Memory.{zero_page}
+use Rattle.kernel_tables.specs.declared.entry.Entry.TheVariants.{Free, Taken}
+use Rattle.kernel_tables.specs.declared.entry.PageOwner.TheVariants.{Pipe as PipePage}
+use Rattle.kernel_tables.specs.Kernel.{Kernel, first_page, memory_page}
+use Rattle.kernel_tables.specs.Rows.{entry_at}
+use Rattle.space_bank.proofs.EntryLaws.{free_spelled}
+use Rattle.space_bank.proofs.FreeListLaws.{entry_inside}
+use Rattle.domain.proofs.Pages.{forest_paged}
+use Rattle.kernel_machine.proofs.OwnerLaws.{free-tree, none-shares, owned-inside, owned-no-tree}
+use Rattle.kernel_machine.proofs.StandingLaws.{same-memory}
 use Rattle.kernel_tables.specs.Rows.{KeepsRows, is_fixed, of_domain}
 use Rattle.space_bank.specs.Shares.{Outside}
-use Rattle.forest.specs.Forest.{IsSpace}
+use Rattle.forest.specs.Forest.{Forest, IsSpace}
+use Rattle.forest.specs.Walks.{map_of}
 use Rattle.forest.specs.Objects.{NodeObject, OfFile, OfProcess}
 use Rattle.kernel_forest.specs.Trees.{forest_of, TreesGood}
 use Rattle.kernel_forest.proofs.RowLaws.{domains_apart, fixed_apart}
 use Rattle.file_tables.specs.Roots.{named_by}
-use Rattle.user_copy.specs.SpaceMemory.{space_memory}
+use Rattle.user_copy.specs.SpaceMemory.{memory_by, space_memory}
 use Rattle.domain.specs.Buffers.{WritesBuffer}
 use Rattle.domain.specs.Domains.{Domain, domains, domain_at, roots, roots_by}
 use Rattle.unix_model.specs.Files.{entry_names, links, places_of}
@@ -158,3 +168,39 @@ counts_without_buffer old new root page offs drops has standing counts =
     buffers-counted old new root (let was = at (domains old) root in record was { buffer = None }) offs drops.domains_now refl (ap roots_by drops.fixed_now)
     (ap inodes_of drops.given) (ap descriptions_of drops.given)
     (λ number inode found tree some. gone-memory old new root page drops has standing inode.root (its-space old standing.roots number inode found tree some).0) counts
+
+-- ---- pages of pipes
+
+-- a page of no tree has another entry
+paged : (old new : Kernel) (offs : Offs) → forest_of new ≡ forest_of old → domains new ≡ domains old → roots new ≡ roots old
+    → inodes_of new ≡ inodes_of old → descriptions_of new ≡ descriptions_of old → KeepsTrees old new → CountsOff old offs → CountsOff new offs
+unfolding machine_of
+paged old new offs forest same slots inodes descriptions trees counts =
+    counted-by old new offs inodes descriptions (links-kept old new inodes trees)
+    (same-descriptors (machine_of old) (machine_of new) slots (λ root. ap (λ (table : ℕ → Domain). (at table root).descriptors) same)) counts
+
+pub counts_with_page : law.CountsWithPage
+unfolding inodes_of descriptions_of
+counts_with_page old new page offs takes counts =
+    let free = free-tree (entry_at old.page_entries (page - first_page old.size)) takes.was_free in
+    let inside = entry_inside old.page_entries (page - first_page old.size) (free_spelled (entry_at old.page_entries (page - first_page old.size)) takes.was_free) in
+    let forest : forest_of new ≡ forest_of old =
+    ap forest_of takes.state
+    ∙ forest_paged old (page - first_page old.size) (Taken PipePage 1) inside free refl (none-shares (entry_at old.page_entries (page - first_page old.size)) free) refl
+    in
+    paged old new offs forest (ap domains takes.state) (ap roots takes.state) (ap inodes_of takes.state) (ap descriptions_of takes.state)
+    (λ number inode found tree some. ap₂ (λ (bytes : ℕ → List ℕ) (f : Forest). memory_by bytes (map_of f.keys inode.root)) (ap memory_page takes.state) forest) counts
+
+pub counts_without_page : law.CountsWithoutPage
+unfolding inodes_of descriptions_of
+counts_without_page old new page offs given standing counts =
+    let owned = standing.is_loose.taken in
+    let none = owned-no-tree old page PipePage owned refl in
+    let forest : forest_of new ≡ forest_of old =
+    ap forest_of given
+    ∙ forest_paged old (page - first_page old.size) (Free old.machine.free_page) (owned-inside old page PipePage owned) none refl (none-shares (entry_at old.page_entries (page - first_page old.size)) none) refl
+    in
+    paged old new offs forest (ap domains given) (ap roots given) (ap inodes_of given) (ap descriptions_of given)
+    (λ number inode found tree some.
+    ap₂ (λ (bytes : ℕ → List ℕ) (f : Forest). memory_by bytes (map_of f.keys inode.root)) (ap memory_page given) forest
+    ∙ same-memory old page PipePage zero_page owned refl standing.bank standing.trees.held.sound inode.root (its-space old standing.roots number inode found tree some).0) counts

@@ -1,15 +1,16 @@
 -- How far the counts that the tables keep are off within a turn, and what each change makes of it, each law as one statement. A
 -- change of what is counted leaves the stored count behind until it is written, or the other way round; both together cancel.
-use Rattle.std.specs.Prelude.{◌≡◌, ◌≢◌, ◌<◌, ◌≤◌, ◌+◌, ◌==◌, ℕ, true, false, Option, Some, None, List, [], ◌∷◌, ◌++◌, length, replicate, slice_set}
+use Rattle.std.specs.Prelude.{◌≡◌, ◌≢◌, ◌<◌, ◌≤◌, ◌+◌, ◌-◌, ◌==◌, ℕ, true, false, Option, Some, None, List, [], ◌∷◌, ◌++◌, length, replicate, slice_set}
 use Rattle.std.specs.List.{count_by}
 use Rattle.kn_base.specs.declared.key.Key.{Key}
 use Rattle.kernel_tables.specs.declared.description.Description.{Description}
 use Rattle.kernel_tables.specs.declared.inode.Inode.{Inode}
 use Rattle.kernel_tables.specs.declared.inode.InodeKind.{InodeKind}
 use Rattle.kernel_tables.specs.declared.row.Row.TheVariants.{Free, Used}
-use Rattle.kernel_tables.specs.Kernel.{Kernel, inode_at, description_at}
+use Rattle.kernel_tables.specs.declared.entry.PageOwner.TheVariants.{Pipe}
+use Rattle.kernel_tables.specs.Kernel.{Kernel, inode_at, description_at, first_page}
 use Rattle.kernel_tables.specs.Rows.{domain_rows}
-use Rattle.space_bank.specs.Bank.{BankGood}
+use Rattle.space_bank.specs.Bank.{BankGood, TakesPage, page_given}
 use Rattle.forest.specs.Objects.{NodeObject, Owner, OfProcess}
 use Rattle.forest.specs.Walks.{Mapping}
 use Rattle.kernel_forest.specs.Trees.{forest_of}
@@ -32,7 +33,7 @@ use Rattle.unix_model.specs.Tables.{at, with_at}
 use Rattle.kernel_machine.specs.Counts.{InodesCounted, DescriptionsCounted, descriptors_of, opens}
 use Rattle.kernel_machine.specs.Good.{Good}
 use Rattle.kernel_machine.specs.Laws.{HasRoot}
-use Rattle.kernel_machine.specs.Loose.{StandingBut, owned_space}
+use Rattle.kernel_machine.specs.Loose.{Ring, StandingBut, owned_space}
 use Rattle.kernel_machine.specs.Standing.{Standing, LeavesSpaces}
 use Rattle.kernel_machine.specs.Machine.{machine_of, inodes_of, descriptions_of}
 use Rattle.kernel_machine.specs.View.{view, processes_in, inode_in, inodes_in, descriptions_in, files_in}
@@ -149,6 +150,16 @@ abbrev pub CountsWithoutBuffer : Type 0
 CountsWithoutBuffer =
     (old new : Kernel) (root page : ℕ) (offs : Offs)
     → DropsBuffer old new root page → (at (domains old) root).buffer ≡ Some page → Standing old → CountsOff old offs → CountsOff new offs
+
+-- A page was taken for a pipe, or a loose one was given back.
+abbrev pub CountsWithPage : Type 0
+CountsWithPage =
+    (old new : Kernel) (page : ℕ) (offs : Offs) → TakesPage old new page Pipe → CountsOff old offs → CountsOff new offs
+
+abbrev pub CountsWithoutPage : Type 0
+CountsWithoutPage =
+    (old new : Kernel) (page : ℕ) (offs : Offs)
+    → new ≡ page_given old (page - first_page old.size) → StandingBut old (Ring page) → CountsOff old offs → CountsOff new offs
 
 -- ---- calls on spaces
 

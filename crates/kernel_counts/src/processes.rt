@@ -1,6 +1,6 @@
-//! Laws of the counts along with processes: their domains, descriptors and buffers.
+//! Laws of the counts along with processes: their domains, descriptors and buffers, and the pages of pipes.
 
-ghost use Rattle.kernel_counts.specs.Counted.{CountsWithBirth, CountsWithBuffer, CountsWithDescriptor, CountsWithEnd, CountsWithGone, CountsWithNumbers, CountsWithProcess, CountsWithSpaceSet, CountsWithState, CountsWithoutBuffer};
+ghost use Rattle.kernel_counts.specs.Counted.{CountsWithBirth, CountsWithBuffer, CountsWithDescriptor, CountsWithEnd, CountsWithGone, CountsWithNumbers, CountsWithPage, CountsWithProcess, CountsWithSpaceSet, CountsWithState, CountsWithoutBuffer, CountsWithoutPage};
 
 /// Processes and files of the flat state are the same.
 pub fn counts_with_state()
@@ -30,6 +30,16 @@ pub fn counts_with_buffer()
 /// The buffer of a domain is given back.
 pub fn counts_without_buffer()
     ensures { CountsWithoutBuffer }
+{}
+
+/// A page is taken for a pipe.
+pub fn counts_with_page()
+    ensures { CountsWithPage }
+{}
+
+/// A loose page of a pipe is given back.
+pub fn counts_without_page()
+    ensures { CountsWithoutPage }
 {}
 
 /// A descriptor is set, or cleared.
