@@ -31,9 +31,10 @@ use Rattle.kernel_machine.specs.Loose.{Loose, Nothing, Space, Tree, loose_key, w
 use Rattle.kernel_machine.specs.Machine.{inodes_of}
 use Rattle.kernel_machine.specs.Processes.{HoldingsGood}
 use Rattle.kernel_machine.specs.Standing.{Standing, page_owners}
-use Rattle.kernel_machine.specs.Trees.{HasTree, IsFileTree, IsRootOf, RootsGood, KeepersGood}
+use Rattle.kernel_machine.specs.Trees.{IsFileTree, IsRootOf, RootsGood, KeepersGood}
 use Rattle.kernel_machine.proofs.KeepLaws.{outside-more}
 use Rattle.kernel_machine.proofs.LooseLaws.{word-no-space, word-tree}
+use Rattle.kernel_machine.proofs.MemoryLaws.{tree-of}
 use Rattle.kernel_machine.proofs.SpacesStand.{nodes-kept, owner-kept, tree-by-memory}
 
 -- a space's key outside names no page
@@ -134,17 +135,11 @@ module _ (old new : Kernel) (space : ℕ) (owner : Owner) (map : ℕ → Option 
       named-space OfProcess held e = let same : space ≡ held = cc in sym same
       named-space OfFile held e = cc
 
-      root-space : (inode : Inode) (kind : InodeKind) → HasTree kind → inode.root ≢ 0 → IsRootOf (forest_of old) (memory_page old) (page_owners old) inode kind → IsSpace (forest_of old) [] inode.root
-      root-space inode File tree some is = (is some).0
-      root-space inode Dir tree some is = (is some).0
-      root-space inode Pipe tree some is = absurd tree
-      root-space inode Console tree some is = absurd tree
-
       no-root : (whose : Owner) (number : ℕ) (inode : Inode) → at (inodes_of old) number ≡ Some inode → word_of inode.kind inode.root ≡ owned_space whose space → owned_space whose space ≡ Nothing
       no-root OfProcess number inode there e = absurd (word-no-space inode.kind inode.root space e)
       no-root OfFile number inode there e =
           let w = word-tree inode.kind inode.root space e in
-          absurd (not-space inode.root (root-space inode inode.kind w.0 w.1 (standing.roots.each number inode there)) w.2)
+          absurd (not-space inode.root (tree-of (forest_of old) (memory_page old) (page_owners old) inode inode.kind (standing.roots.each number inode there) w.0 w.1).0 w.2)
 
   keepers-good : KeepersGood (forest_of new)
   keepers-good =

@@ -1,5 +1,5 @@
 -- What stands within a turn too goes along with buffers, for which pages are taken and given back.
-use Rattle.std.proofs.Common.{◌≡◌, ◌≢◌, ◌≤◌, ◌+◌, ◌-◌, ◌⊎◌, ℕ, Option, Some, None, true, false, List, [], length, refl, sym, ap, subst, ◌∙◌, arith, ⊎_elim, inl, inr}
+use Rattle.std.proofs.Common.{◌≡◌, ◌≢◌, ◌≤◌, ◌+◌, ◌-◌, ◌⊎◌, ℕ, Option, Some, None, true, false, List, [], length, refl, sym, ap, ap₂, subst, ◌∙◌, arith, ⊎_elim, inl, inr}
 use Rattle.std.specs.Prelude.{◌&&◌, Bool, nat_lt}
 use Rattle.std.specs.Option.{IsSome}
 use Rattle.std.proofs.lemmas.Bool.{cases_eq}
@@ -20,12 +20,14 @@ use Rattle.space_bank.specs.FreeList.{is_free}
 use Rattle.space_bank.specs.Shares.{Outside}
 use Rattle.space_bank.proofs.FreeListLaws.{entry_inside}
 use Rattle.space_bank.proofs.EntryLaws.{free_spelled}
-use Rattle.forest.specs.Forest.{Forest, NoPageOutside}
+use Rattle.forest.specs.Forest.{Forest, IsSpace, NoPageOutside}
+use Rattle.forest.specs.Walks.{map_of}
 use Rattle.forest.specs.Objects.{Object, PageObject}
 use Rattle.kernel_forest.specs.Trees.{forest_of, outside_trees, TreesGood}
 use Rattle.file_tables.specs.Roots.{named_by}
 use Rattle.unix_model.specs.Tables.{at, with_at}
 use Rattle.unix_model.proofs.TableLaws.{at-with_at, at-with_at-other}
+use Rattle.user_copy.specs.SpaceMemory.{memory_by, space_memory}
 use Rattle.domain.specs.Buffers.{TakesBuffer, DropsBuffer, WritesBytes, WritesBuffer, buffer_key}
 use Rattle.domain.specs.Domains.{Domain, domains}
 use Rattle.domain.specs.Rules.{RowsGood}
@@ -38,7 +40,7 @@ use Rattle.kernel_machine.specs.Trees.{IsRootOf}
 use Rattle.kernel_machine.proofs.HeldLaws.{stays}
 use Rattle.kernel_machine.proofs.KeepLaws.{outside-more, trees-again}
 use Rattle.kernel_machine.proofs.OwnerLaws.{free-by-nobody, free-in-no-tree, other-page, owned-below, owned-in-bank, owned-inside, owners-set, unowned-by, whole-set}
-use Rattle.kernel_machine.proofs.StandingLaws.{filled-to, held-to, holdings-to, is-node, keepers-to, root-same, roots-to, standing_with_bytes}
+use Rattle.kernel_machine.proofs.StandingLaws.{filled-to, held-to, holdings-to, is-node, keepers-to, root-same, roots-to, same-memory, standing_with_bytes}
 
 -- ---- a page more for a buffer
 
@@ -203,6 +205,12 @@ bank-before before page bytes taken good =
       nodes = good.nodes;
     }
 
+-- bytes in a page of a buffer change no memory
+written-memory : (old new : Kernel) (page : ℕ) (content : List ℕ) → at (page_owners old) page ≡ Some Buffer → Standing old → new ≡ record old { bank = with_bank_page old page content }
+    → (space : ℕ) → IsSpace (forest_of old) [] space → space_memory new space ≡ space_memory old space
+written-memory old new page content owned standing writes space is =
+    ap (λ (k : Kernel). space_memory k space) writes ∙ same-memory old page Buffer content owned refl standing.bank standing.trees.held.sound space is
+
 -- bytes in a buffer that a domain holds
 module _ (old new : Kernel) (root start page : ℕ) (bytes : List ℕ) (inside : start + length bytes ≤ 4096) (bank : BankGood new) (standing : Standing old)
     (has : (at (domains old) root).buffer ≡ Some page) (writes : WritesBytes old new page start bytes) where
@@ -233,6 +241,41 @@ by-buffer old new root start bytes None has first live inside bank rows standing
     in
     written-stands between new root start page bytes inside bank stands
     (ap (λ (domain : Domain). domain.buffer) (here old between root page first.takes live has good (subst RowsGood (ap domain_rows first.writes) rows) standing)) first.writes
+
+memory-by-buffer : (old new : Kernel) (root start : ℕ) (bytes : List ℕ) (held : Option ℕ) → (at (domains old) root).buffer ≡ held → WritesBuffer old new root start bytes held
+    → (at (domains old) root).live ≡ true → start + length bytes ≤ 4096 → BankGood new → RowsGood (domain_rows new) → Standing old
+    → (space : ℕ) → IsSpace (forest_of old) [] space → space_memory new space ≡ space_memory old space
+unfolding mine
+memory-by-buffer old new root start bytes (Some page) has writes live inside bank rows standing space is =
+    written-memory old new page (overwritten (bank_page old page) start bytes) (standing.holdings.buffers root page has) standing writes space is
+memory-by-buffer old new root start bytes None has first live inside bank rows standing space is =
+    let between = first.between in
+    let page = first.page in
+    let content : List ℕ = overwritten (bank_page between page) start bytes in
+    let good : BankGood between =
+    bank-before between page content (ap is_free first.takes.buffer.entry) (subst BankGood first.writes bank)
+    in
+    let rows_then = subst RowsGood (ap domain_rows first.writes) rows in
+    let stands : Standing between =
+    taken-stands old between root page first.takes live has good rows_then standing
+    in
+    let buffer = ap (λ (domain : Domain). domain.buffer) (here old between root page first.takes live has good rows_then standing) in
+    written-memory between new page content (stands.holdings.buffers root page buffer) stands first.writes space
+    (subst (λ (forest : Forest). IsSpace forest [] space) (sym first.takes.forest_now) is)
+    ∙ ap₂ (λ (bytes : ℕ → List ℕ) (forest : Forest). memory_by bytes (map_of forest.keys space)) (ap memory_page first.takes.rest) first.takes.forest_now
+
+-- a buffer that is written changes no memory, ..
+pub buffer-memory : (old new : Kernel) (root start : ℕ) (bytes : List ℕ) → WritesBuffer old new root start bytes (at (domains old) root).buffer
+    → (at (domains old) root).live ≡ true → start + length bytes ≤ 4096 → BankGood new → RowsGood (domain_rows new) → Standing old
+    → (space : ℕ) → IsSpace (forest_of old) [] space → space_memory new space ≡ space_memory old space
+buffer-memory old new root start bytes = memory-by-buffer old new root start bytes (at (domains old) root).buffer refl
+
+-- .. nor one that is given back
+pub gone-memory : (old new : Kernel) (root page : ℕ) → DropsBuffer old new root page → (at (domains old) root).buffer ≡ Some page → Standing old
+    → (space : ℕ) → IsSpace (forest_of old) [] space → space_memory new space ≡ space_memory old space
+gone-memory old new root page drops has standing space is =
+    ap₂ (λ (bytes : ℕ → List ℕ) (forest : Forest). memory_by bytes (map_of forest.keys space)) (ap memory_page drops.given) drops.forest_now
+    ∙ same-memory old page Buffer zero_page (standing.holdings.buffers root page has) refl standing.bank standing.trees.held.sound space is
 
 pub standing_with_buffer : law.StandingWithBuffer
 standing_with_buffer old new root start bytes writes live inside bank rows standing = by-buffer old new root start bytes (at (domains old) root).buffer refl writes live inside bank rows standing

@@ -36,7 +36,7 @@ use Rattle.kernel_machine.specs.Trees.{HasTree, IsFileTree, IsRootOf, RootsGood,
 use Rattle.kernel_machine.proofs.AddStands.{outside-owned, page-outside}
 use Rattle.kernel_machine.proofs.HeldLaws.{stays}
 use Rattle.kernel_machine.proofs.KeepLaws.{trees-again}
-use Rattle.kernel_machine.proofs.LooseLaws.{loose-space, space-or-not, tree-word, word-no-space}
+use Rattle.kernel_machine.proofs.LooseLaws.{loose-space, not-loose, space-or-not, word-no-space}
 use Rattle.kernel_machine.proofs.SpacesStand.{memory-kept, nodes-kept, owner-kept, tree-by-memory}
 use Rattle.kernel_machine.proofs.StandingLaws.{filled-to, holdings-to, is-node, keepers-to, roots-to}
 
@@ -247,12 +247,7 @@ module _ (old new : Kernel) (space : ℕ) (owner : Owner) (drops : Drops old new
           let no : Some OfFile ≡ Some OfProcess = sym taken.1 ∙ ap (λ n. (forest_of old).owner (NodeObject n)) (sym same) ∙ mine in cc
 
   not-inode : (number : ℕ) (inode : Inode) → at (inodes_of old) number ≡ Some inode → HasTree inode.kind → inode.root ≢ 0 → (forest_of old).owner (NodeObject inode.root) ≡ Some OfFile → inode.root ≢ space
-  not-inode number inode found tree some owned same = by-owner owner standing.is_loose
-    where
-      by-owner : (whose : Owner) → IsLoose (owned_space whose space) (domains old) (forest_of old) (page_owners old) (inodes_of old) → ⊥
-      by-owner OfProcess loose =
-          let no : Some OfProcess ≡ Some OfFile = sym loose.taken.1 ∙ ap (λ n. (forest_of old).owner (NodeObject n)) (sym same) ∙ owned in cc
-      by-owner OfFile loose = let no : Tree space ≡ Nothing = loose.no_root number inode found (tree-word inode.kind inode.root tree some ∙ ap Tree same) in cc
+  not-inode = not-loose owner space (domains old) (forest_of old) (page_owners old) (inodes_of old) standing.is_loose
 
   holdings-left : HoldingsGood (domains old) (forest_of new) (page_owners new)
   holdings-left =

@@ -19,11 +19,11 @@ use Rattle.kernel_forest.specs.Trees.{forest_of, outside_trees, TreesGood}
 use Rattle.file_tables.specs.Roots.{named_by}
 use Rattle.unix_model.specs.Tables.{at, with_at}
 use Rattle.unix_model.proofs.TableLaws.{at-with_at, at-with_at-other}
-use Rattle.domain.specs.Domains.{Domain, no_domain, domains}
+use Rattle.domain.specs.Domains.{Domain, no_domain, domains, description_by, full_domain, words_of}
 use Rattle.domain.specs.Ends.{MakesZombie, ended, MayDrop, DropsDomain}
 use Rattle.domain.specs.Keys.{node_in}
 use Rattle.domain.specs.Rules.{RowsGood}
-use Rattle.domain.proofs.DomainLaws.{live_meter}
+use Rattle.domain.proofs.DomainLaws.{live_meter, root_domain}
 use Rattle.domain.proofs.Ending.{root_regs_node, root_descriptors_node}
 use Rattle.domain.proofs.FieldLaws.{root_whole}
 use Rattle.kernel_machine.specs.Held.{AllHeld, NodesHeld, IsNodeOf}
@@ -137,6 +137,24 @@ standing_with_end old new root ends live bank rows standing = stands old new roo
 
 -- ---- a zombie is dropped
 
+-- a zombie has its root alone, and so no descriptor
+wordless : (kernel : Kernel) (root : ℕ) → RowsGood (domain_rows kernel) → MayDrop kernel root → (node_in (domain_rows kernel root 3) ≡ None) × (node_in (domain_rows kernel root 4) ≡ None)
+wordless kernel root rows may =
+    none-of (node_in (domain_rows kernel root 3)) (node_in (domain_rows kernel root 4)) (rows.places root (live_meter (domain_rows kernel) root may.live)).both
+    (sym (root_whole (domain_rows kernel) root may.live) ∙ may.wordless)
+  where
+    none-of : {X Y : Type 0} (one : Option X) (two : Option Y) → is_some one ≡ is_some two → (is_some one && is_some two) ≡ false → (one ≡ None) × (two ≡ None)
+    none-of None None same e = (refl, refl)
+    none-of None (Some y) same e = cc
+    none-of (Some x) None same e = cc
+    none-of (Some x) (Some y) same e = cc
+
+pub no-descriptors : (kernel : Kernel) (root : ℕ) → RowsGood (domain_rows kernel) → MayDrop kernel root → (number : ℕ) → (at (domains kernel) root).descriptors number ≡ None
+unfolding full_domain
+no-descriptors kernel root rows may number =
+    ap (λ (domain : Domain). domain.descriptors number) (root_domain (domain_rows kernel) root (live_meter (domain_rows kernel) root may.live))
+    ∙ ap (λ node. description_by (words_of (domain_rows kernel) node number)) (wordless kernel root rows may).1
+
 module _ (old new : Kernel) (slot root : ℕ) (drops : DropsDomain old new slot root) (may : MayDrop old root) (bank : BankGood new) (rows : RowsGood (domain_rows new)) (standing : Standing old) where
   apart-there : (other : ℕ) → other ≢ root → at (domains new) other ≡ at (domains old) other
   apart-there other apart = ap (λ (table : ℕ → Domain). at table other) drops.domains_now ∙ at-with_at-other (domains old) root other no_domain apart
@@ -189,18 +207,6 @@ module _ (old new : Kernel) (slot root : ℕ) (drops : DropsDomain old new slot 
         pipes = standing.held.pipes;
       }
 
-  -- a zombie has its root alone
-  wordless : (place : ℕ) → (node_in (domain_rows old root 3) ≡ None) × (node_in (domain_rows old root 4) ≡ None)
-  wordless place =
-      let both = (standing.rows.places root (live_meter (domain_rows old) root may.live)).both in
-      none-of (node_in (domain_rows old root 3)) (node_in (domain_rows old root 4)) both (sym (root_whole (domain_rows old) root may.live) ∙ may.wordless)
-    where
-      none-of : {X Y : Type 0} (one : Option X) (two : Option Y) → is_some one ≡ is_some two → (is_some one && is_some two) ≡ false → (one ≡ None) × (two ≡ None)
-      none-of None None same e = (refl, refl)
-      none-of None (Some y) same e = cc
-      none-of (Some x) None same e = cc
-      none-of (Some x) (Some y) same e = cc
-
   nodes-still : NodesHeld (domain_rows new) new.node_entries
   nodes-still node mine =
       let apart : node ≢ root = λ same. not-free (entry_at new.node_entries node) (ap (λ n. is_free (entry_at new.node_entries n)) same ∙ drops.free) mine in
@@ -213,8 +219,8 @@ module _ (old new : Kernel) (slot root : ℕ) (drops : DropsDomain old new slot 
       no-node node apart is = ⊎_elim
           (λ (t : root ≡ node). apart (sym t))
           (λ (t : (node_in (domain_rows old root 3) ≡ Some node) ⊎ (node_in (domain_rows old root 4) ≡ Some node)). ⊎_elim
-          (λ (u : node_in (domain_rows old root 3) ≡ Some node). let no : Some node ≡ None = sym u ∙ (wordless 0).0 in cc)
-          (λ (u : node_in (domain_rows old root 4) ≡ Some node). let no : Some node ≡ None = sym u ∙ (wordless 0).1 in cc) t)
+          (λ (u : node_in (domain_rows old root 3) ≡ Some node). let no : Some node ≡ None = sym u ∙ (wordless old root standing.rows may).0 in cc)
+          (λ (u : node_in (domain_rows old root 4) ≡ Some node). let no : Some node ≡ None = sym u ∙ (wordless old root standing.rows may).1 in cc) t)
           is.1
 
   still-stands : Standing new

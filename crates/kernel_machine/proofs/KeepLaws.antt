@@ -3,7 +3,7 @@ use Rattle.std.proofs.Common.{◌≡◌, ◌≤◌, ◌<◌, ◌+◌, ◌*◌, �
 use Rattle.std.specs.Option.{IsSome, is_some}
 use Rattle.std.proofs.lemmas.Bool.{cases_Bool, ne_eqb}
 use Rattle.kn_base.specs.declared.key.Key.{Key}
-use Rattle.kn_base.specs.declared.key.Key.TheVariants.{Start, Node, Domain as DomainKey}
+use Rattle.kn_base.specs.declared.key.Key.TheVariants.{Null, Start, Node, Domain as DomainKey}
 use Rattle.kernel_tables.specs.declared.entry.Entry.{Entry}
 use Rattle.kernel_tables.specs.declared.entry.Entry.TheVariants.{Free, Taken, Fixed, Unspelled}
 use Rattle.kernel_tables.specs.declared.entry.NodeOwner.{NodeOwner}
@@ -25,6 +25,7 @@ use Rattle.forest.proofs.ReachLaws.{nothing_in_hand}
 use Rattle.kernel_forest.specs.Trees.{forest_of, outside_trees, outside_by, bank_outside, raw_names, is_counted, owner_of, tree_in, node_tree, TreesGood, IsTreeKey}
 use Rattle.kernel_forest.proofs.Outside.{more_outside}
 use Rattle.domain.specs.Life.{MakesDomain, and_all, root_keys}
+use Rattle.domain.specs.Rules.{written}
 use Rattle.domain.proofs.RowLaws.{written_both}
 use Rattle.domain.proofs.Writing.{fixed_key}
 use Rattle.kernel_machine.specs.Keeps as law
@@ -199,10 +200,11 @@ fixed_with_rows old new good now e fixed =
     let same = λ (place : ℕ) (low : place < 240). same-key old new place good now low (ap (λ (rows : ℕ → ℕ → Key). rows (place / 16) (place % 16)) e) in
     fixed-same old new (λ place low. same place (omega arith)) (λ slot low. subst IsSlotKey (sym (same (176 + slot) (omega arith))) (fixed.slots slot low)) fixed
 
-pub fixed_with_birth : law.FixedWithBirth
-fixed_with_birth old new slot space root below good now made fixed =
-    let key : Key = DomainKey (record { 0 = root }) in
-    let shown = λ (place : ℕ). ap (λ (rows : ℕ → ℕ → Key). rows (place / 16) (place % 16)) made.fixed_now in
+-- one key of the slot table was written, with one that may stand there
+slot-written : (old new : Kernel) (slot : ℕ) (key : Key) → slot < 64 → IsSlotKey (Some key) → BankGood old → BankGood new
+    → fixed_rows new ≡ written (fixed_rows old) (11 + slot / 16) (slot % 16) key → FixedNodes old.keys → FixedNodes new.keys
+slot-written old new slot key below right good now e fixed =
+    let shown = λ (place : ℕ). ap (λ (rows : ℕ → ℕ → Key). rows (place / 16) (place % 16)) e in
     fixed-same old new
     (λ place low. same-key old new place good now (omega arith)
     (shown place
@@ -210,5 +212,11 @@ fixed_with_birth old new slot space root below good now made fixed =
     (λ node digit. absurd (omega arith)) refl))
     (λ other low. subst IsSlotKey (sym (key-fixed new (176 + other) now (omega arith) ∙ ap Some (shown (176 + other))))
     (written_both (fixed_rows old) (11 + slot / 16) (slot % 16) key (λ k. IsSlotKey (Some k)) ((176 + other) / 16) ((176 + other) % 16)
-    (λ node digit. tt) (subst IsSlotKey (key-fixed old (176 + other) good (omega arith)) (fixed.slots other low))))
+    (λ node digit. right) (subst IsSlotKey (key-fixed old (176 + other) good (omega arith)) (fixed.slots other low))))
     fixed
+
+pub fixed_with_birth : law.FixedWithBirth
+fixed_with_birth old new slot space root below good now made fixed = slot-written old new slot (DomainKey (record { 0 = root })) below tt good now made.fixed_now fixed
+
+pub fixed_with_gone : law.FixedWithGone
+fixed_with_gone old new slot root below good now drops fixed = slot-written old new slot Null below tt good now drops.fixed_now fixed

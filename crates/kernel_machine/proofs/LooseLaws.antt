@@ -9,13 +9,17 @@ use Rattle.kernel_tables.specs.declared.row.Row.{Row}
 use Rattle.kernel_tables.specs.declared.row.Row.TheVariants.{Free, Used, Unspelled}
 use Rattle.kernel_tables.specs.Kernel.{Kernel}
 use Rattle.space_bank.specs.Shares.{Outside}
-use Rattle.forest.specs.Forest.{NoPageOutside}
+use Rattle.kernel_tables.specs.declared.entry.PageOwner.{PageOwner}
+use Rattle.forest.specs.Forest.{Forest, NoPageOutside}
+use Rattle.forest.specs.Objects.{NodeObject, Owner, OfFile, OfProcess}
+use Rattle.unix_model.specs.Tables.{at}
+use Rattle.domain.specs.Domains.{Domain}
 use Rattle.kernel_forest.specs.Trees.{forest_of, outside_trees, TreesGood}
 use Rattle.file_tables.specs.Roots.{named_by, root_key, word_key}
 use Rattle.file_tables.proofs.RootLaws.{none_outside}
 use Rattle.domain.specs.Keys.{key_of_space}
 use Rattle.kernel_machine.specs.Loose as law
-use Rattle.kernel_machine.specs.Loose.{Loose, Nothing, Space, Tree, Ring, loose_key, space_of, word_of, root_of, HeldBut, StandingBut, outside_with}
+use Rattle.kernel_machine.specs.Loose.{Loose, Nothing, Space, Tree, Ring, loose_key, space_of, word_of, root_of, owned_space, HeldBut, IsLoose, StandingBut, outside_with}
 use Rattle.kernel_machine.specs.Standing.{Standing}
 use Rattle.kernel_machine.specs.Trees.{HasTree}
 
@@ -115,6 +119,14 @@ ring-or-not Nothing page = inr (λ e. cc)
 ring-or-not (Space one) page = inr (λ e. cc)
 ring-or-not (Tree one) page = inr (λ e. cc)
 ring-or-not (Ring one) page = ⊎_elim (λ (t : one ≡ page). inl (ap Ring t)) (λ (d : one ≢ page). inr (λ e. d (let same : one ≡ page = cc in same))) (cases_eq one page)
+
+-- no inode has a space or tree that is loose
+pub not-loose : (owner : Owner) (space : ℕ) (domains : ℕ → Domain) (forest : Forest) (page_owner : ℕ → Option PageOwner) (inodes : ℕ → Option Inode) → IsLoose (owned_space owner space) domains forest page_owner inodes
+    → (number : ℕ) (inode : Inode) → at inodes number ≡ Some inode → HasTree inode.kind → inode.root ≢ 0 → forest.owner (NodeObject inode.root) ≡ Some OfFile → inode.root ≢ space
+not-loose OfProcess space domains forest page_owner inodes loose number inode found tree some owned same =
+    let no : Some OfProcess ≡ Some OfFile = sym loose.taken.1 ∙ ap (λ n. forest.owner (NodeObject n)) (sym same) ∙ owned in cc
+not-loose OfFile space domains forest page_owner inodes loose number inode found tree some owned same =
+    let no : Tree space ≡ Nothing = loose.no_root number inode found (tree-word inode.kind inode.root tree some ∙ ap Tree same) in cc
 
 -- ---- nothing
 

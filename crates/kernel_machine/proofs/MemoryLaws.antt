@@ -74,7 +74,7 @@ process-moved old new domain space is buffers =
 no-zero : (n : ℕ) → suc n ≢ 0
 no-zero n e = cc
 
-memory-kept : (old new : KernelMachine) (root : ℕ) → (root ≢ 0 → memory_in new (Some root) ≡ memory_in old (Some root)) → file_memory new root ≡ file_memory old root
+pub memory-kept : (old new : KernelMachine) (root : ℕ) → (root ≢ 0 → memory_in new (Some root) ≡ memory_in old (Some root)) → file_memory new root ≡ file_memory old root
 unfolding file_memory
 memory-kept old new zero same = refl
 memory-kept old new (suc root) same = same (no-zero root)
@@ -216,6 +216,12 @@ memory_changed old new slot root space holdings trees has space_is changes =
     (with_at (processes_in old) slot (Some (record (process_in old (at old.domains root)) { memory = memory_in new (Some space) }))) (inodes_in old)
     (processes-moved old new space holdings trees changes slot root has space_is)
     (inodes-kept old new space holdings trees changes (λ number row is. file-apart old new space holdings trees changes root number row space_is is))
+
+pub memory_unseen : law.MemoryUnseen
+unfolding view
+memory_unseen old new space holdings trees no_domain no_inode changes =
+    view-now old new space holdings trees changes (processes_in old) (inodes_in old)
+    (processes-kept old new space holdings trees changes no_domain) (inodes-kept old new space holdings trees changes no_inode)
 
 -- a file's tree changes
 module _ (old new : KernelMachine) (number space : ℕ) (inode : Inode) (holdings : HoldingsGood old.domains old.forest old.page_owner) (trees : RootsGood old.forest old.page_bytes old.page_owner old.inodes) (is : at old.inodes number ≡ Some inode) (root_is : inode.root ≡ space) (there : space ≢ 0) (tree : HasTree inode.kind) (changes : ChangesMemory old new space) where

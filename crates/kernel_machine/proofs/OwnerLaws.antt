@@ -1,5 +1,5 @@
 -- Who owns pages that belong to no tree, and how that goes along with a page that is taken or given back.
-use Rattle.std.proofs.Common.{◌≡◌, ◌≢◌, ◌<◌, ◌≤◌, ◌-◌, ℕ, Some, None, true, false, nat_lt, List, [], length, set, get_or, refl, sym, ap, ◌∙◌, arith, ⊎_elim}
+use Rattle.std.proofs.Common.{◌≡◌, ◌≢◌, ◌<◌, ◌≤◌, ◌+◌, ◌-◌, ℕ, suc, zero, Some, None, true, false, nat_lt, List, [], ◌∷◌, length, set, get_or, refl, sym, ap, ◌∙◌, arith, ⊎_elim}
 use Rattle.std.specs.Prelude.{if◌then◌else◌}
 use Rattle.std.specs.Option.{IsSome, is_some}
 use Rattle.std.proofs.lemmas.Bool.{cases_Bool, cases_eq, cases_lt, lt-ltb, le-ltb, ne_eqb}
@@ -8,7 +8,10 @@ use Rattle.kn_base.specs.declared.key.Key.TheVariants.{Page}
 use Rattle.kernel_tables.specs.declared.entry.Entry.{Entry}
 use Rattle.kernel_tables.specs.declared.entry.Entry.TheVariants.{Free, Taken, Fixed, Unspelled}
 use Rattle.kernel_tables.specs.declared.entry.PageOwner.{PageOwner}
-use Rattle.kernel_tables.specs.Kernel.{Kernel, first_page}
+use Rattle.kernel_tables.specs.declared.row.Row.{Row}
+use Rattle.kernel_tables.specs.declared.row.Row.TheVariants.{Unspelled as UnspelledRow}
+use Rattle.kernel_tables.specs.Kernel.{Kernel, kernel_of, first_page}
+use Rattle.kernel_tables.proofs.Sizes.{length-bank_page}
 use Rattle.kernel_tables.specs.Rows.{entry_at}
 use Rattle.space_bank.specs.Bank.{BankGood}
 use Rattle.space_bank.specs.FreeList.{is_free}
@@ -18,6 +21,7 @@ use Rattle.forest.specs.Forest.{Forest}
 use Rattle.forest.specs.Objects.{Object, PageObject, NodeObject}
 use Rattle.kernel_forest.specs.Trees.{forest_of, owner_of, tree_in, tree_shares, page_tree, raw_names}
 use Rattle.kernel_machine.specs.Held.{AllWhole}
+use Rattle.kernel_machine.specs.Keeps as law
 use Rattle.kernel_machine.specs.Machine.{owner_in, page_owner_of}
 use Rattle.kernel_machine.specs.Standing.{page_owners}
 use Rattle.kernel_machine.proofs.ViewLaws.{changed_at}
@@ -130,3 +134,19 @@ whole-set bank place bytes size whole number low =
     ap (λ n. length (get_or (set bank place bytes) n [])) t ∙ ap length (get_or-set_same bank place bytes [] (omega arith)) ∙ size)
     (λ (d : number ≢ place). ap length (get_or-set_other bank place number bytes [] d) ∙ whole number (omega arith))
     (cases_eq number place)
+
+-- the pages of a store's bank have their bytes
+pub store_is_whole : law.StoreIsWhole
+store_is_whole memory good whole page low =
+    let high = good.pages.pages in
+    let same : first_page (kernel_of memory).size + page - first_page (kernel_of memory).size ≡ page = omega arith in
+    ap (λ n. length (get_or (kernel_of memory).bank n [])) (sym same)
+    ∙ length-bank_page memory (first_page (kernel_of memory).size + page) good.sized (record { low = omega arith; high = omega arith }) whole
+
+-- ---- rows
+
+-- a row that is spelled is one of the table
+pub row-inside : {X : Type 0} (rows : List (Row X)) (number : ℕ) → get_or rows number UnspelledRow ≢ UnspelledRow → number < length rows
+row-inside [] number spelled = absurd (spelled refl)
+row-inside (row ∷ rows) zero spelled = omega arith
+row-inside (row ∷ rows) (suc n) spelled = let h = row-inside rows n spelled in omega arith

@@ -34,7 +34,8 @@ use Rattle.kernel_machine.specs.Trees.{IsRootOf, RootsGood}
 use Rattle.kernel_machine.proofs.KeepLaws.{outside-more}
 use Rattle.kernel_machine.proofs.LooseLaws.{ring-word, word-ring}
 use Rattle.kernel_machine.proofs.OwnerLaws.{free-by-nobody, free-in-no-tree, free-tree, none-shares, other-page, owned-below, owned-in-bank, owned-inside, owned-no-tree, owners-set, unowned-by, whole-set}
-use Rattle.kernel_machine.proofs.RootStands.{ring-real, ring-root}
+use Rattle.kernel_machine.proofs.MemoryLaws.{page-of}
+use Rattle.kernel_machine.proofs.RootStands.{ring-real}
 use Rattle.kernel_machine.proofs.StandingLaws.{filled-to, keepers-to, root-same}
 
 -- ---- a page is taken
@@ -112,7 +113,7 @@ module _ (old new : Kernel) (page : ℕ) (takes : TakesPage old new page PipePag
         no_space = λ root held has same. cc;
         no_root = λ number inode found same.
             let w = word-ring inode.kind inode.root page same in
-            absurd (owned-other inode.root PipePage (ring-root old inode inode.kind w.0 (standing.roots.each number inode found)) w.2);
+            absurd (owned-other inode.root PipePage (page-of (forest_of old) (memory_page old) (page_owners old) inode inode.kind (standing.roots.each number inode found) w.0) w.2);
       }
 
   page-stands : StandingBut new (Ring page)

@@ -1,5 +1,5 @@
 -- What stands but one thing goes along with rows of inodes that get and give up their roots.
-use Rattle.std.proofs.Common.{◌≡◌, ◌≢◌, ◌⊎◌, ◌<◌, ℕ, zero, suc, Option, Some, None, true, false, List, [], ◌∷◌, length, set, slice_index_or, refl, sym, ap, subst, ◌∙◌, arith, ⊎_elim, inl, inr}
+use Rattle.std.proofs.Common.{◌≡◌, ◌≢◌, ◌⊎◌, ◌<◌, ℕ, Option, Some, None, true, false, List, [], length, set, slice_index_or, refl, sym, ap, subst, ◌∙◌, arith, ⊎_elim, inl, inr}
 use Rattle.std.specs.Option.{is_some}
 use Rattle.std.proofs.lemmas.Bool.{cases_eq}
 use Rattle.std.proofs.lemmas.List.{get_or-set_same, set-set}
@@ -30,7 +30,8 @@ use Rattle.kernel_machine.specs.Standing.{page_owners}
 use Rattle.kernel_machine.specs.Trees.{HasTree, IsRootOf, RootsGood}
 use Rattle.kernel_machine.proofs.LooseLaws.{loose-root, nothing_loose, ring-or-not, ring-word, tree-or-not, tree-word, word-no-space, word-ring, word-tree}
 use Rattle.kernel_machine.proofs.MachineLaws.{inode_written}
-use Rattle.kernel_machine.proofs.OwnerLaws.{owned-in-bank}
+use Rattle.kernel_machine.proofs.MemoryLaws.{page-of, tree-of}
+use Rattle.kernel_machine.proofs.OwnerLaws.{owned-in-bank, row-inside}
 
 -- ---- what has a root
 
@@ -45,31 +46,16 @@ pub ring-real : (kernel : Kernel) (page : ℕ) → at (page_owners kernel) page 
 unfolding first_page
 ring-real kernel page owned same = let low = owned-in-bank kernel page PipePage owned in absurd (omega arith)
 
--- the root of a row that has a tree, and of a pipe
-tree-root : (kernel : Kernel) (inode : Inode) (kind : InodeKind) → HasTree kind → inode.root ≢ 0 → IsRootOf (forest_of kernel) (memory_page kernel) (page_owners kernel) inode kind
-    → IsTaken (forest_of kernel) (page_owners kernel) (Tree inode.root)
-tree-root kernel inode File tree some is = let h = is some in (h.0, h.1)
-tree-root kernel inode Dir tree some is = let h = is some in (h.0, h.1)
-tree-root kernel inode Pipe tree some is = absurd tree
-tree-root kernel inode Console tree some is = absurd tree
-
-pub ring-root : (kernel : Kernel) (inode : Inode) (kind : InodeKind) → kind ≡ Pipe → IsRootOf (forest_of kernel) (memory_page kernel) (page_owners kernel) inode kind
-    → at (page_owners kernel) inode.root ≡ Some PipePage
-ring-root kernel inode File pipe is = cc
-ring-root kernel inode Dir pipe is = cc
-ring-root kernel inode Pipe pipe is = is
-ring-root kernel inode Console pipe is = cc
-
 word-taken : (kernel : Kernel) (inode : Inode) (loose : Loose) → word_of inode.kind inode.root ≡ loose → IsRootOf (forest_of kernel) (memory_page kernel) (page_owners kernel) inode inode.kind
     → IsTaken (forest_of kernel) (page_owners kernel) loose
 word-taken kernel inode Nothing e is = tt
 word-taken kernel inode (Space space) e is = absurd (word-no-space inode.kind inode.root space e)
 word-taken kernel inode (Tree root) e is =
     let h = word-tree inode.kind inode.root root e in
-    subst (λ n. IsTaken (forest_of kernel) (page_owners kernel) (Tree n)) h.2 (tree-root kernel inode inode.kind h.0 h.1 is)
+    subst (λ n. IsTaken (forest_of kernel) (page_owners kernel) (Tree n)) h.2 (tree-of (forest_of kernel) (memory_page kernel) (page_owners kernel) inode inode.kind is h.0 h.1)
 word-taken kernel inode (Ring page) e is =
     let h = word-ring inode.kind inode.root page e in
-    ap (at (page_owners kernel)) (sym h.2) ∙ ring-root kernel inode inode.kind h.0 is
+    ap (at (page_owners kernel)) (sym h.2) ∙ page-of (forest_of kernel) (memory_page kernel) (page_owners kernel) inode inode.kind is h.0
 
 -- ---- a row is written
 
@@ -130,7 +116,7 @@ module _ (old new : Kernel) (number : ℕ) (row : Row Inode) (inside : number < 
 
   ring-apart : (one two : ℕ) (inode second : Inode) → row ≡ Used inode → at (inodes_of old) two ≡ Some second → inode.kind ≡ Pipe → second.kind ≡ Pipe → inode.root ≡ second.root → ⊥
   ring-apart one two inode second mine there pipe too same =
-      let some = ring-real old inode.root (ring-root old inode inode.kind pipe (row-root inode mine)) in
+      let some = ring-real old inode.root (page-of (forest_of old) (memory_page old) (page_owners old) inode inode.kind (row-root inode mine) pipe) in
       not-row two second (Ring second.root) there (ring-word second.kind second.root too (λ z. some (same ∙ z)))
       (sym (row-word inode mine) ∙ ring-word inode.kind inode.root pipe some ∙ ap Ring same) (λ e. cc)
 
@@ -270,11 +256,9 @@ standing_with_root old new number row inside now exchanges good is standing = ro
 
 -- ---- a new inode
 
--- a row that is there is one of the table
-index-used : (rows : List (Row Inode)) (number : ℕ) → slice_index_or rows number Unspelled ≡ Free → number < length rows
-index-used [] number e = cc
-index-used (row ∷ rows) zero e = omega arith
-index-used (row ∷ rows) (suc n) e = let h = index-used rows n e in omega arith
+-- a free row is one of the table
+free-inside : (rows : List (Row Inode)) (number : ℕ) → slice_index_or rows number Unspelled ≡ Free → number < length rows
+free-inside rows number free = row-inside rows number (λ same. let no : Free ≡ Unspelled = sym free ∙ same in cc)
 
 -- a fresh inode has nothing
 fresh-word : (kind : InodeKind) → word_of kind 0 ≡ Nothing
@@ -295,7 +279,7 @@ module _ (old new : Kernel) (kind : InodeKind) (number : ℕ) (loose : Loose) (t
   fresh = fresh_inode kind
 
   inside-rows : number < length old.inodes
-  inside-rows = index-used old.inodes number takes.was_free
+  inside-rows = free-inside old.inodes number takes.was_free
 
   inodes-fresh : inodes_of new ≡ with_at (inodes_of old) number (Some fresh)
   unfolding machine_of fresh
@@ -411,7 +395,7 @@ standing_with_new_inode old new kind number loose takes apart named good standin
 module _ (old mid new : Kernel) (number page : ℕ) (row : Inode) (takes : TakesInode old mid Pipe number) (written : new ≡ record mid { inodes = set mid.inodes number (Used row) })
     (named : named_by mid.inodes ≡ named_by old.inodes) (exchanges : ExchangesRoots mid new number (Used row)) (kind : row.kind ≡ Pipe) (root : row.root ≡ page) (standing : StandingBut old (Ring page)) where
   in-rows : number < length old.inodes
-  in-rows = index-used old.inodes number takes.was_free
+  in-rows = free-inside old.inodes number takes.was_free
 
   both-written : new ≡ record old { inodes = set old.inodes number (Used row) }
   both-written =

@@ -44,7 +44,7 @@ use Rattle.kernel_machine.specs.Contents.{pages_in}
 use Rattle.kernel_machine.specs.Held.{AllWhole, NodesHeld}
 use Rattle.kernel_machine.specs.Machine.{inodes_of, owner_in, page_owner_of}
 use Rattle.kernel_machine.specs.Processes.{HoldingsGood}
-use Rattle.kernel_machine.proofs.LooseLaws.{nothing_loose, tree-word}
+use Rattle.kernel_machine.proofs.LooseLaws.{not-loose, nothing_loose}
 use Rattle.kernel_machine.proofs.MemoryLaws.{made-same}
 use Rattle.kernel_machine.specs.Loose as law
 use Rattle.kernel_machine.specs.Loose.{Loose, Nothing, Space, Tree, Ring, loose_key, IsTaken, IsLoose, HeldBut, StandingBut, outside_with}
@@ -319,8 +319,8 @@ but-tree old new space leaves bank whole standing =
     stands-with old new space (Tree space) leaves bank whole standing (roots-with old new space (Tree space) leaves bank whole standing
     (λ number inode there tree some is owned file.
     tree-by-memory (forest_of old).keys (forest_of new).keys (memory_page old) (memory_page new) inode.root inode.length
-    (leaves.memories inode.root is (λ same.
-    let no : Tree space ≡ Nothing = standing.is_loose.no_root number inode there (tree-word inode.kind inode.root tree some ∙ ap Tree same) in cc)) file))
+    (leaves.memories inode.root is
+    (not-loose OfFile space (domains old) (forest_of old) (page_owners old) (inodes_of old) standing.is_loose number inode there tree some owned)) file))
 
 pub standing_with_loose : law.StandingWithLoose
 standing_with_loose old new space OfProcess leaves bank whole standing = but-memory old new space (Space space) leaves standing.is_loose.taken.1 bank whole standing

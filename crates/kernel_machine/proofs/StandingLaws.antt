@@ -25,7 +25,7 @@ use Rattle.kernel_forest.proofs.Bridge.{page_inside}
 use Rattle.kernel_forest.proofs.Moves.{bank_page as its_page}
 use Rattle.kernel_forest.specs.Trees.{forest_of, outside_trees, page_tree, TreesGood}
 use Rattle.file_tables.specs.Roots.{named_by, root_key, word_key}
-use Rattle.file_tables.specs.Rows.{InodesGood}
+use Rattle.file_tables.specs.Rows.{InodesGood, DescriptionsGood}
 use Rattle.file_tables.proofs.RootLaws.{kept, trees_beside}
 use Rattle.domain.specs.Domains.{Domain, Life, domains, domain_at, full_domain}
 use Rattle.domain.specs.Keys.{is_meter, node_in}
@@ -332,7 +332,7 @@ standing_with_description old new descriptions e good standing = subst (λ (k : 
       rows = standing.rows;
       nodes_held = standing.nodes_held;
       inodes = standing.inodes;
-      descriptions = good;
+      descriptions = subst (λ (k : Kernel). DescriptionsGood k.descriptions) e good;
       holdings = standing.holdings;
       roots = standing.roots;
       keepers = standing.keepers;
@@ -399,7 +399,7 @@ module _ (old : Kernel) (page : ℕ) (owner : PageOwner) (bytes : List ℕ) (own
       (get_or-set_other old.bank (page - first_page old.size) (mapping.page - first_page old.size) bytes [] (λ e. t.0 (omega (arith, e, in-bank)))))
       (mapped-apart space number mapping is mapped)
 
-  same-memory : (space : ℕ) → IsSpace (forest_of old) [] space → memory_by (memory_page written) (map_of (forest_of old).keys space) ≡ memory_by (memory_page old) (map_of (forest_of old).keys space)
+  pub same-memory : (space : ℕ) → IsSpace (forest_of old) [] space → memory_by (memory_page written) (map_of (forest_of old).keys space) ≡ memory_by (memory_page old) (map_of (forest_of old).keys space)
   unfolding memory_by
   same-memory space is = fun_ext (λ number. made-same (page_of (memory_page written)) (page_of (memory_page old)) (map_of (forest_of old).keys space number)
       (λ mapping mapped. ap (λ content. let now : Page = record { writable = mapping.writable; bytes = content } in now) (same-bytes space number mapping is mapped)))
@@ -488,4 +488,63 @@ slots_changed roots room lives domains slot root key life domain good has fits =
           (cases_eq r root);
       free = λ s low none.
           at-with_at-other room slot s key (λ t. let no : Some root ≡ None = sym has ∙ ap (at roots) (sym t) ∙ none in cc) ∙ good.free s low none;
+    }
+
+pub slots_born : law.SlotsBorn
+slots_born roots room lives domains slot root life domain good free dead fits =
+    let not-root : (other : ℕ) → (at domains other).live ≡ true → other ≢ root = λ other live same. let no : true ≡ false = sym live ∙ ap (λ n. (at domains n).live) same ∙ dead in cc in
+    record {
+      each = λ s r found. ⊎_elim
+          (λ (t : s ≡ slot).
+          let both : Some root ≡ Some r = sym (at-with_at roots slot (Some root)) ∙ ap (at (with_at roots slot (Some root))) (sym t) ∙ found in
+          let same : root ≡ r = cc in
+          subst (λ n. IsInSlot room (with_at lives root life) (with_at domains root domain) n r) (sym t)
+          (subst (λ n. IsInSlot room (with_at lives root life) (with_at domains root domain) slot n) same fits))
+          (λ (d : s ≢ slot).
+          let was = good.each s r (sym (at-with_at-other roots slot s (Some root) d) ∙ found) in
+          let other = not-root r was.live in
+          in-slot-same room room lives (with_at lives root life) domains (with_at domains root domain) s r refl (at-with_at-other lives root r life other) (at-with_at-other domains root r domain other) was)
+          (cases_eq s slot);
+      all = λ r live. ⊎_elim
+          (λ (t : r ≡ root).
+          subst (λ n. at (with_at roots slot (Some root)) (at (with_at domains root domain) n).slot ≡ Some n) (sym t)
+          (ap (at (with_at roots slot (Some root))) fits.slot_is ∙ at-with_at roots slot (Some root)))
+          (λ (d : r ≢ root).
+          let same = at-with_at-other domains root r domain d in
+          let was = good.all r (ap (λ (now : Domain). now.live) (sym same) ∙ live) in
+          ap (λ (now : Domain). at (with_at roots slot (Some root)) now.slot) same
+          ∙ at-with_at-other roots slot (at domains r).slot (Some root) (λ t. let no : Some r ≡ None = sym was ∙ ap (at roots) t ∙ free in cc)
+          ∙ was)
+          (cases_eq r root);
+      free = λ s low none. ⊎_elim
+          (λ (t : s ≡ slot). let no : Some root ≡ None = sym (at-with_at roots slot (Some root)) ∙ ap (at (with_at roots slot (Some root))) (sym t) ∙ none in cc)
+          (λ (d : s ≢ slot). good.free s low (sym (at-with_at-other roots slot s (Some root) d) ∙ none))
+          (cases_eq s slot);
+    }
+
+pub slots_gone : law.SlotsGone
+slots_gone roots room lives domains slot root life domain good has key dead =
+    let owned : (other : ℕ) → at roots other ≡ Some root → other ≡ slot = λ other found. sym (good.each other root found).slot_is ∙ (good.each slot root has).slot_is in
+    record {
+      each = λ s r found. ⊎_elim
+          (λ (t : s ≡ slot). let no : None ≡ Some r = sym (at-with_at roots slot None) ∙ ap (at (with_at roots slot None)) (sym t) ∙ found in cc)
+          (λ (d : s ≢ slot).
+          let before = sym (at-with_at-other roots slot s None d) ∙ found in
+          let other : r ≢ root = λ same. d (owned s (before ∙ ap Some same)) in
+          in-slot-same room room lives (with_at lives root life) domains (with_at domains root domain) s r refl (at-with_at-other lives root r life other) (at-with_at-other domains root r domain other) (good.each s r before))
+          (cases_eq s slot);
+      all = λ r live. ⊎_elim
+          (λ (t : r ≡ root).
+          let no : true ≡ false = sym live ∙ ap (λ n. (at (with_at domains root domain) n).live) t ∙ ap (λ (now : Domain). now.live) (at-with_at domains root domain) ∙ dead in cc)
+          (λ (d : r ≢ root).
+          let same = at-with_at-other domains root r domain d in
+          let was = good.all r (ap (λ (now : Domain). now.live) (sym same) ∙ live) in
+          ap (λ (now : Domain). at (with_at roots slot None) now.slot) same
+          ∙ at-with_at-other roots slot (at domains r).slot None (λ t. d (let both : Some r ≡ Some root = sym was ∙ ap (at roots) t ∙ has in let e : r ≡ root = cc in e))
+          ∙ was)
+          (cases_eq r root);
+      free = λ s low none. ⊎_elim
+          (λ (t : s ≡ slot). ap (at room) t ∙ key)
+          (λ (d : s ≢ slot). good.free s low (sym (at-with_at-other roots slot s None d) ∙ none))
+          (cases_eq s slot);
     }

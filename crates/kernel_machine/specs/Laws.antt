@@ -162,6 +162,15 @@ TreeChanged =
     → at old.inodes number ≡ Some inode → inode.root ≡ space → space ≢ 0 → HasTree inode.kind → ChangesMemory old new space
     → view new ≡ with_files (view old) (with_inode (files_in old) number (inode_in new inode))
 
+-- The memory of a space changes that nobody has, as where it comes or goes: the state is the same.
+abbrev pub MemoryUnseen : Type 0
+MemoryUnseen =
+    (old new : KernelMachine) (space : ℕ)
+    → HoldingsGood old.domains old.forest old.page_owner → RootsGood old.forest old.page_bytes old.page_owner old.inodes
+    → ((root : ℕ) → (at old.domains root).space ≢ Some space)
+    → ((number : ℕ) (inode : Inode) → at old.inodes number ≡ Some inode → HasTree inode.kind → inode.root ≢ 0 → inode.root ≢ space)
+    → ChangesMemory old new space → view new ≡ view old
+
 -- the machine with other bytes in a page
 abbrev pub with_page : KernelMachine → ℕ → List ℕ → KernelMachine
 with_page machine page bytes = record machine { page_bytes = with_at machine.page_bytes page bytes }

@@ -1,7 +1,8 @@
 -- What holds also within a turn, while states, counts and the flat state don't agree yet, and what agrees between turns; and how
 -- single calls keep what stands, each law as one statement.
-use Rattle.std.specs.Prelude.{◌≡◌, ◌≢◌, ◌↔◌, ◌<◌, ◌≤◌, ◌+◌, ℕ, true, Option, Some, None, List, [], length, slice_set}
+use Rattle.std.specs.Prelude.{◌≡◌, ◌≢◌, ◌↔◌, ◌<◌, ◌≤◌, ◌+◌, ℕ, true, false, Option, Some, None, List, [], length, slice_set}
 use Rattle.kn_base.specs.declared.key.Key.{Key}
+use Rattle.kn_base.specs.declared.key.Key.TheVariants.{Null}
 use Rattle.kernel_tables.specs.declared.description.Description.{Description}
 use Rattle.kernel_tables.specs.declared.entry.PageOwner.{PageOwner}
 use Rattle.kernel_tables.specs.declared.inode.Inode.{Inode}
@@ -112,7 +113,7 @@ StandingWithInode =
 abbrev pub StandingWithDescription : Type 0
 StandingWithDescription =
     (old new : Kernel) (descriptions : List (Row Description))
-    → new ≡ record old { descriptions = descriptions } → DescriptionsGood descriptions → Standing old → Standing new
+    → new ≡ record old { descriptions = descriptions } → DescriptionsGood new.descriptions → Standing old → Standing new
 
 -- The next process id, the position or the promised pages are other ones.
 abbrev pub StandingWithWords : Type 0
@@ -226,3 +227,18 @@ SlotsChanged =
     → SlotsGood roots room lives domains → at roots slot ≡ Some root
     → IsInSlot (with_at room slot key) (with_at lives root life) (with_at domains root domain) slot root
     → SlotsGood roots (with_at room slot key) (with_at lives root life) (with_at domains root domain)
+
+-- A domain came into a slot that was free, with a root that no slot had: if it fits, slots are good.
+abbrev pub SlotsBorn : Type 0
+SlotsBorn =
+    (roots : ℕ → Option ℕ) (room : ℕ → Key) (lives : ℕ → Life) (domains : ℕ → Domain) (slot root : ℕ) (life : Life) (domain : Domain)
+    → SlotsGood roots room lives domains → at roots slot ≡ None → (at domains root).live ≡ false
+    → IsInSlot room (with_at lives root life) (with_at domains root domain) slot root
+    → SlotsGood (with_at roots slot (Some root)) room (with_at lives root life) (with_at domains root domain)
+
+-- The domain of a slot is one no more, and its key in the resume room is Null: slots are good.
+abbrev pub SlotsGone : Type 0
+SlotsGone =
+    (roots : ℕ → Option ℕ) (room : ℕ → Key) (lives : ℕ → Life) (domains : ℕ → Domain) (slot root : ℕ) (life : Life) (domain : Domain)
+    → SlotsGood roots room lives domains → at roots slot ≡ Some root → at room slot ≡ Null → domain.live ≡ false
+    → SlotsGood (with_at roots slot None) room (with_at lives root life) (with_at domains root domain)

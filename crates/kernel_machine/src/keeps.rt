@@ -1,6 +1,6 @@
 //! Laws of what holds of trees and of fixed nodes.
 
-ghost use Rattle.kernel_machine.specs.Keeps.{FixedWithBirth, FixedWithRows, TreesWithBirth, TreesWithNumbers};
+ghost use Rattle.kernel_machine.specs.Keeps.{FixedWithBirth, FixedWithGone, FixedWithRows, StoreIsWhole, TreesWithBirth, TreesWithNumbers};
 
 /// Numbers that are written in a domain make no difference to trees.
 pub fn trees_with_numbers()
@@ -12,6 +12,11 @@ pub fn trees_with_birth()
     ensures { TreesWithBirth }
 {}
 
+/// The pages of a store's bank have their bytes.
+pub fn store_is_whole()
+    ensures { StoreIsWhole }
+{}
+
 /// Where the keys of fixed nodes are as they were, these hold what they have to.
 pub fn fixed_with_rows()
     ensures { FixedWithRows }
@@ -20,4 +25,9 @@ pub fn fixed_with_rows()
 /// Where a domain is made, fixed nodes hold what they have to.
 pub fn fixed_with_birth()
     ensures { FixedWithBirth }
+{}
+
+/// Where a domain is dropped, fixed nodes hold what they have to.
+pub fn fixed_with_gone()
+    ensures { FixedWithGone }
 {}

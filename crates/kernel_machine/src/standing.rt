@@ -1,6 +1,6 @@
 //! Laws of what stands within a turn too, and of what is settled between turns.
 
-ghost use Rattle.kernel_machine.specs.Standing.{GoodIsBoth, OwnsLeaves, PutLeaves, RemapLeaves, ReplaceLeaves, SlotsChanged, StandingWithBirth, StandingWithBuffer, StandingWithBytes, StandingWithDescription, StandingWithEnd, StandingWithGone, StandingWithInode, StandingWithLife, StandingWithMemory, StandingWithNumbers, StandingWithTree, StandingWithWords, StandingWithoutBuffer};
+ghost use Rattle.kernel_machine.specs.Standing.{GoodIsBoth, OwnsLeaves, PutLeaves, RemapLeaves, ReplaceLeaves, SlotsBorn, SlotsChanged, SlotsGone, StandingWithBirth, StandingWithBuffer, StandingWithBytes, StandingWithDescription, StandingWithEnd, StandingWithGone, StandingWithInode, StandingWithLife, StandingWithMemory, StandingWithNumbers, StandingWithTree, StandingWithWords, StandingWithoutBuffer};
 
 /// What stands, and what is settled, is all that holds between turns.
 pub fn good_is_both()
@@ -95,4 +95,14 @@ pub fn standing_without_buffer()
 /// The domain in a slot is another one, and its life and its key fit.
 pub fn slots_changed()
     ensures { SlotsChanged }
+{}
+
+/// A domain comes into a free slot, and fits.
+pub fn slots_born()
+    ensures { SlotsBorn }
+{}
+
+/// The domain of a slot is one no more.
+pub fn slots_gone()
+    ensures { SlotsGone }
 {}

@@ -1,6 +1,6 @@
 //! Laws of the flat state that a machine stands for.
 
-ghost use Rattle.kernel_machine.specs.Laws.{DescriptionChanged, DescriptionFreed, DomainBorn, DomainChanged, DomainGone, InodeChanged, InodeFreed, LivesUnseen, MemoryChanged, RingChanged, TreeChanged, WordsChanged};
+ghost use Rattle.kernel_machine.specs.Laws.{DescriptionChanged, DescriptionFreed, DomainBorn, DomainChanged, DomainGone, InodeChanged, InodeFreed, LivesUnseen, MemoryChanged, MemoryUnseen, RingChanged, TreeChanged, WordsChanged};
 
 /// A domain changes: so does its process.
 pub fn domain_changed()
@@ -50,6 +50,11 @@ pub fn words_changed()
 /// The memory of the space of a process changes: so does that process.
 pub fn memory_changed()
     ensures { MemoryChanged }
+{}
+
+/// The memory of a space changes that nobody has: the state is the same.
+pub fn memory_unseen()
+    ensures { MemoryUnseen }
 {}
 
 /// The tree of a file or directory changes: so does that inode.

@@ -1,0 +1,5 @@
+use Rattle.kernel_counts.proofs.SpaceCounts.{counts_with_page}
+use Rattle.kernel_counts.proofs.processes.counts_with_page.Goals as goal
+
+pub returns : goal.returns
+returns c = counts_with_page
