@@ -22,3 +22,4 @@ pub mod StandingLaws
 pub mod SpacesStand
 pub mod BirthStands
 pub mod EndStands
+pub mod MarksStand

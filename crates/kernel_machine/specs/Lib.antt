@@ -11,3 +11,4 @@ pub mod Laws
 pub mod Keeps
 pub mod Standing
 pub mod Bounds
+pub mod Marks

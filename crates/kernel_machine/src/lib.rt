@@ -5,6 +5,7 @@ mod bounds;
 mod calls;
 mod changes;
 mod keeps;
+mod marks;
 mod standing;
 mod views;
 
@@ -19,6 +20,10 @@ pub use changes::{
     spaces_changed,
 };
 pub use keeps::{fixed_with_birth, fixed_with_rows, trees_with_birth, trees_with_numbers};
+pub use marks::{
+    good_with_park, good_with_wake, good_with_wake_of_slot, marks_unseen, slots_are_named,
+    standing_with_marks,
+};
 pub use standing::{
     good_is_both, put_leaves, remap_leaves, replace_leaves, slots_changed, standing_with_birth,
     standing_with_bytes, standing_with_description, standing_with_end, standing_with_inode,
