@@ -37,6 +37,7 @@ stays kernel = record {
   roots_now = refl;
   forest_now = refl;
   outside_now = λ outside. refl;
+  null_now = λ place. refl;
   services_rest = λ service place low apart. refl;
   service_life = λ service is. inl refl;
   services_now = λ service is. is;
@@ -93,6 +94,7 @@ module _ (old new : Kernel) (root slot names : ℕ) (key was : Key) (low : slot 
     roots_now = ap roots_by seats.fixed_now ∙ room_roots (fixed_rows old) slot key low;
     forest_now = seats.forest_now;
     outside_now = seats.outside_now;
+    null_now = λ place. fixed_same 0 place (λ e. absurd (omega arith));
     services_rest = λ service place few apart. fixed_same service place (λ e. absurd (omega arith));
     service_life = λ service is. let high = is.high in inl (fixed_same service 6 (λ e. absurd (omega arith)));
     services_now = λ service is.
@@ -135,6 +137,12 @@ module _ (mid new : Kernel) (root : ℕ) (state : State) (count : ℕ) (has : Ha
   unfolding room_of
   room_same = fun_ext (λ slot. fixed_high (7 + slot / 16) (slot % 16) (omega arith))
 
+  null_same : (place : ℕ) → fixed_rows new 0 place ≡ fixed_rows mid 0 place
+  null_same place = ⊎_elim
+      (λ (live : (at (domains mid) root).live ≡ true). ap (λ (f : ℕ → ℕ → Key). f 0 place) (writes live).fixed_now)
+      (λ (is : IsService (fixed_rows mid) root). let least = is.low in sets.fixed_now 0 place (λ e g. absurd (omega arith)))
+      has
+
   pub then_set : (old : Kernel) (now : ℕ → Life) (rooms : ℕ → Key) (entries : List (Entry NodeOwner)) (key was : Key)
       → InvokesBy old mid now rooms entries key was → InvokesBy old new (with_at now root (record { state = state; count = count })) rooms entries key was
   then_set old now rooms entries key was first = record {
@@ -145,6 +153,7 @@ module _ (mid new : Kernel) (root : ℕ) (state : State) (count : ℕ) (has : Ha
     roots_now = sets.roots_now ∙ first.roots_now;
     forest_now = sets.forest_now ∙ first.forest_now;
     outside_now = λ outside. sets.outside_now (and_outside outside was) ∙ first.outside_now outside;
+    null_now = λ place. null_same place ∙ first.null_now place;
     services_rest = λ service place few apart. sets.fixed_now service place (λ e g. apart g) ∙ first.services_rest service place few apart;
     service_life = life;
     services_now = λ service is. sets.services_now service (first.services_now service is);

@@ -4,4 +4,4 @@ mod Composing
 mod Reaching
 mod Seated
 mod Waking
-mod Leaving
+pub mod Leaving

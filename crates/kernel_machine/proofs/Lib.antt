@@ -23,3 +23,4 @@ pub mod SpacesStand
 pub mod BirthStands
 pub mod EndStands
 pub mod MarksStand
+pub mod InvocationsStand

@@ -12,3 +12,4 @@ pub mod Keeps
 pub mod Standing
 pub mod Bounds
 pub mod Marks
+pub mod Invocations

@@ -4,6 +4,7 @@
 mod bounds;
 mod calls;
 mod changes;
+mod invocations;
 mod keeps;
 mod marks;
 mod standing;
@@ -18,6 +19,10 @@ pub use calls::{description_set, domain_set, inode_set, life_set, roots_differ};
 pub use changes::{
     description_written, files_written, inode_written, key_handed_over, numbers_written,
     spaces_changed,
+};
+pub use invocations::{
+    invocation_unseen, slots_are_good_but, slots_are_settled, slots_but_with_domain,
+    slots_with_invocation, standing_with_invocation,
 };
 pub use keeps::{fixed_with_birth, fixed_with_rows, trees_with_birth, trees_with_numbers};
 pub use marks::{
