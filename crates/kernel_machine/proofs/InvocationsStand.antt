@@ -44,6 +44,7 @@ use Rattle.kernel_machine.specs.Processes.{IsInSlot, HasMarks}
 use Rattle.kernel_machine.specs.Standing.{Standing, page_owners}
 use Rattle.kernel_machine.specs.View.{view}
 use Rattle.kernel_machine.proofs.KeepLaws.{held-same, none-more, other-node, trees-in}
+use Rattle.kernel_machine.proofs.MarksStand.{woken-in-slot, woken-only}
 use Rattle.kernel_machine.proofs.StandingLaws.{is-node, holdings-to, roots-to, held-to, filled-to, keepers-to}
 use Rattle.kernel_machine.proofs.ViewLaws.{lives_unseen}
 
@@ -276,6 +277,17 @@ slots_but_with_domain roots room lives domains root domain apart live slot among
       live = λ s held used. of_live held ∙ good.live s held used;
       own = λ s held used. of_slot held ∙ good.own s held used;
       all = λ held lives_now. ap (at roots) (of_slot held) ∙ good.all held (sym (of_live held) ∙ lives_now);
+      free = good.free;
+    }
+
+pub slots_but_with_wake : law.SlotsButWithWake
+slots_but_with_wake roots room lives domains word apart good =
+    let only = woken-only word domains in
+    record {
+      each = λ slot root used other. woken-in-slot room lives domains word slot root (good.each slot root used other);
+      live = λ slot root used. ap (λ (d : Domain). d.live) (only root) ∙ good.live slot root used;
+      own = λ slot root used. ap (λ (d : Domain). d.slot) (only root) ∙ good.own slot root used;
+      all = λ root live. ap (λ (d : Domain). at roots d.slot) (only root) ∙ good.all root (sym (ap (λ (d : Domain). d.live) (only root)) ∙ live);
       free = good.free;
     }
 

@@ -9,8 +9,8 @@ use Rattle.space_bank.specs.Bank.{BankGood}
 use Rattle.kernel_forest.specs.Trees.{forest_of}
 use Rattle.domain.specs.declared.types.Phase.{Phase}
 use Rattle.domain.specs.declared.types.Phase.TheVariants as phase
-use Rattle.domain.specs.Domains.{Domain, Life, domains, lives, roots}
-use Rattle.domain.specs.Marks.{parked_on, released}
+use Rattle.domain.specs.Domains.{Domain, Life, domains, lives, roots, roots_by}
+use Rattle.domain.specs.Marks.{parked_on, released, woken, all_woken}
 use Rattle.domain.specs.Phases.{FitsPhase, state_for, key_for}
 use Rattle.domain.specs.Rules.{RowsGood}
 use Rattle.domain.specs.Sets.{WritesNumbers}
@@ -26,7 +26,7 @@ use Rattle.kernel_machine.specs.Good.{Good, MarksFit, ParkedGood}
 use Rattle.kernel_machine.specs.Held.{AllHeld}
 use Rattle.kernel_machine.specs.Machine.{KernelMachine, machine_of, inodes_of}
 use Rattle.kernel_machine.specs.Marks as law
-use Rattle.kernel_machine.specs.Marks.{OnlyMarks, WritesMarks, SettledButMarks}
+use Rattle.kernel_machine.specs.Marks.{OnlyMarks, WritesMarks, SettledButMarks, MarksFitButOn}
 use Rattle.kernel_machine.specs.Processes.{SlotsGood, IsInSlot, HasMarks, HoldingsGood}
 use Rattle.kernel_machine.specs.Standing.{Standing, page_owners}
 use Rattle.kernel_machine.specs.View.{view, process_in, processes_in, memory_in, inode_in, inodes_in, descriptions_in, file_memory}
@@ -182,6 +182,14 @@ no-marks-fit calls unix slot = record {
   unused = refl;
 }
 
+-- marks that fit in the flat state as it was fit in the one that it is, since that is the same
+parked-then : (calls : Calls) (old new : Kernel) (marked : WritesMarks old new)
+    → ((slot root : ℕ) → at (roots old) slot ≡ Some root → MarksFit calls (view (machine_of old)) slot (at (domains new) root).marks) → ParkedGood calls (machine_of new)
+unfolding machine_of ParkedGood
+parked-then calls old new marked fits slot root used =
+    fit-to calls slot (view (machine_of old)) (view (machine_of new)) (at (domains new) root).marks (at (domains new) root).marks (seen old new marked) refl
+    (fits slot root (ap (λ (r : ℕ → Option ℕ). at r slot) (sym (ap roots_by marked.writes.fixed_now)) ∙ used))
+
 module _ (calls : Calls) (old new : Kernel) (marked : WritesMarks old new) (standing : Standing old) (settled : SettledButMarks calls old) where
   abbrev was : KernelMachine
   was = machine_of old
@@ -205,8 +213,7 @@ module _ (calls : Calls) (old new : Kernel) (marked : WritesMarks old new) (stan
               (subst (λ (u : Unix). DescriptionsCounted was.descriptions u.processes) (sym (seen_same was (marks_in (domains new)))) settled.descriptions_counted);
           promises = ap (λ (k : Kernel). k.machine.promised) marked.writes.rest ∙ settled.promises ∙ ap promised (sym same);
           unix = subst (IsUnix calls) (sym same) settled.unix;
-          parked = λ slot root used. fit-to calls slot (view was) (view (machine_of new)) (at (domains new) root).marks (at (domains new) root).marks same refl
-              (fits slot root (ap (λ (m : KernelMachine). at m.roots slot) (sym e) ∙ used));
+          parked = parked-then calls old new marked fits;
         },
       )
 
@@ -222,24 +229,48 @@ phase_none domain = none_fit (record domain { marks = replicate 3 0 }) domain.ph
 phase_same : (domain : Domain) → HasMarks domain domain.phase → PhaseFits domain domain.marks
 phase_same domain fits = same_fit domain (record domain { marks = domain.marks }) domain.phase refl fits
 
+woken-fits : (word : ℕ) (domain : Domain) → HasMarks domain domain.phase → PhaseFits domain (woken word domain).marks
+woken-fits word domain fit = woken_marks word domain (PhaseFits domain) (λ parked. phase_none domain) (λ apart. phase_same domain fit)
+
+pub woken-only : (word : ℕ) (domains : ℕ → Domain) → OnlyMarks domains (all_woken word domains)
+woken-only word domains root = all_woken_at word domains root ∙ woken_only word (at domains root)
+    ∙ ap (λ (d : Domain). let now : Domain = record (at domains root) { marks = d.marks } in now) (sym (all_woken_at word domains root))
+
+-- a domain in its slot stays in it where all are woken
+pub woken-in-slot : (room : ℕ → Key) (lives : ℕ → Life) (domains : ℕ → Domain) (word slot root : ℕ) → IsInSlot room lives domains slot root → IsInSlot room lives (all_woken word domains) slot root
+woken-in-slot room lives domains word slot root was =
+    in_slot room lives domains (all_woken word domains) slot root (at (all_woken word domains) root) (woken-only word domains root)
+    (subst (λ (d : Domain). PhaseFits (at domains root) d.marks) (sym (all_woken_at word domains root)) (woken-fits word (at domains root) was.marks)) was
+
+module _ (old new : Kernel) (word : ℕ) (writes : WritesNumbers old new) (lived : lives new ≡ lives old) (is : domains new ≡ all_woken word (domains old))
+    (bank : BankGood new) (rows : RowsGood (domain_rows new)) where
+  marks-woken : (root : ℕ) → (at (domains new) root).marks ≡ (woken word (at (domains old) root)).marks
+  marks-woken root = ap (λ (d : ℕ → Domain). (at d root).marks) is ∙ ap (λ (d : Domain). d.marks) (all_woken_at word (domains old) root)
+
+  wake-writes : WritesMarks old new
+  wake-writes = record {
+    writes = writes;
+    lives_now = lived;
+    only = λ root. ap (λ (d : ℕ → Domain). at d root) is ∙ woken-only word (domains old) root
+        ∙ ap (λ (d : ℕ → Domain). let now : Domain = record (at (domains old) root) { marks = (at d root).marks } in now) (sym is);
+    bank = bank;
+    rows = rows;
+  }
+
+  wake-fits : (calls : Calls) → MarksFitButOn calls (machine_of old) word → (slot root : ℕ) → at (roots old) slot ≡ Some root → MarksFit calls (view (machine_of old)) slot (at (domains new) root).marks
+  unfolding machine_of
+  wake-fits calls fits slot root used = subst (MarksFit calls (view (machine_of old)) slot) (sym (marks-woken root))
+      (woken_marks word (at (domains old) root) (MarksFit calls (view (machine_of old)) slot) (λ parked. no-marks-fit calls (view (machine_of old)) slot) (λ apart. fits slot root used apart))
+
+pub parked_with_wake : law.ParkedWithWake
+parked_with_wake calls old new word writes lived is bank rows fits =
+    parked-then calls old new (wake-writes old new word writes lived is bank rows) (wake-fits old new word writes lived is bank rows calls fits)
+
 pub good_with_wake : law.GoodWithWake
-unfolding machine_of
 good_with_wake calls old new word writes lived is bank rows standing settled fits =
-    let here = λ (root : ℕ). ap (λ (d : ℕ → Domain). at d root) is ∙ all_woken_at word (domains old) root in
-    let marks = λ (root : ℕ). ap (λ (d : Domain). d.marks) (here root) in
-    all-good calls old new
-    (record {
-      writes = writes;
-      lives_now = lived;
-      only = λ root. here root ∙ woken_only word (at (domains old) root) ∙ ap (λ (m : List ℕ). let d : Domain = record (at (domains old) root) { marks = m } in d) (sym (marks root));
-      bank = bank;
-      rows = rows;
-    })
-    standing settled
-    (λ slot root used fit. subst (PhaseFits (at (domains old) root)) (sym (marks root))
-    (woken_marks word (at (domains old) root) (PhaseFits (at (domains old) root)) (λ parked. phase_none (at (domains old) root)) (λ apart. phase_same (at (domains old) root) fit)))
-    (λ slot root used. subst (MarksFit calls (view (machine_of old)) slot) (sym (marks root))
-    (woken_marks word (at (domains old) root) (MarksFit calls (view (machine_of old)) slot) (λ parked. no-marks-fit calls (view (machine_of old)) slot) (λ apart. fits slot root used apart)))
+    all-good calls old new (wake-writes old new word writes lived is bank rows) standing settled
+    (λ slot root used fit. subst (PhaseFits (at (domains old) root)) (sym (marks-woken old new word writes lived is bank rows root)) (woken-fits word (at (domains old) root) fit))
+    (wake-fits old new word writes lived is bank rows calls fits)
 
 -- ---- one domain has other marks
 

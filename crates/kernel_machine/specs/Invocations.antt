@@ -8,6 +8,7 @@ use Rattle.kernel_tables.specs.Rows.{domain_rows, fixed_rows}
 use Rattle.space_bank.specs.Bank.{BankGood}
 use Rattle.unix_model.specs.Tables.{at, with_at}
 use Rattle.domain.specs.Domains.{Domain, Life, domains, lives, roots}
+use Rattle.domain.specs.Marks.{all_woken}
 use Rattle.domain.specs.Rules.{RowsGood}
 use Rattle.domain.specs.Slots.{room_of}
 use Rattle.invoke.specs.Invokes.{Goes}
@@ -51,6 +52,12 @@ SlotsButWithDomain =
     (roots : ℕ → Option ℕ) (room : ℕ → Key) (lives : ℕ → Life) (domains : ℕ → Domain) (root : ℕ) (domain : Domain) (apart : List ℕ)
     → domain.live ≡ (at domains root).live → domain.slot ≡ (at domains root).slot → IsAmong root apart
     → SlotsGoodBut roots room lives domains apart → SlotsGoodBut roots room lives (with_at domains root domain) apart
+
+-- All are woken that are parked on what a word tells.
+abbrev pub SlotsButWithWake : Type 0
+SlotsButWithWake =
+    (roots : ℕ → Option ℕ) (room : ℕ → Key) (lives : ℕ → Life) (domains : ℕ → Domain) (word : ℕ) (apart : List ℕ)
+    → SlotsGoodBut roots room lives domains apart → SlotsGoodBut roots room lives (all_woken word domains) apart
 
 -- Slots are good where those of all roots are.
 abbrev pub SlotsAreSettled : Type 0

@@ -18,7 +18,7 @@ use Rattle.unix_model.specs.Rules.{IsUnix}
 use Rattle.unix_model.specs.Tables.{at, with_at}
 use Rattle.unix_model.specs.Turn.{turned}
 use Rattle.kernel_machine.specs.Counts.{InodesCounted, DescriptionsCounted}
-use Rattle.kernel_machine.specs.Good.{Good, MarksFit, waits_for}
+use Rattle.kernel_machine.specs.Good.{Good, MarksFit, ParkedGood, waits_for}
 use Rattle.kernel_machine.specs.Machine.{KernelMachine, machine_of}
 use Rattle.kernel_machine.specs.Processes.{SlotsGood}
 use Rattle.kernel_machine.specs.Standing.{Standing}
@@ -73,8 +73,16 @@ abbrev pub MarksFitElsewhere : Calls → KernelMachine → ℕ → Type 0
 MarksFitElsewhere calls machine slot =
     (other root : ℕ) → at machine.roots other ≡ Some root → other ≢ slot → MarksFit calls (view machine) other (at machine.domains root).marks
 
--- No wake-up is lost: where an object has changed, so that those who are parked on it may not have to wait any more, all holds again
--- once they are woken, and whoever is parked still has to wait.
+-- No wake-up is lost: where marks fit of all who are not parked on an object, they fit of all once these are woken, so that whoever is
+-- parked has to wait.
+abbrev pub ParkedWithWake : Type 0
+ParkedWithWake =
+    (calls : Calls) (old new : Kernel) (word : ℕ)
+    → WritesNumbers old new → lives new ≡ lives old → domains new ≡ all_woken word (domains old) → BankGood new → RowsGood (domain_rows new)
+    → MarksFitButOn calls (machine_of old) word → ParkedGood calls (machine_of new)
+
+-- And so all holds that holds between turns, where an object has changed, so that those who are parked on it may not
+-- have to wait any more, and they are woken.
 abbrev pub GoodWithWake : Type 0
 GoodWithWake =
     (calls : Calls) (old new : Kernel) (word : ℕ)

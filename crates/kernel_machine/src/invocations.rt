@@ -1,6 +1,6 @@
 //! Laws of what holds where domains and services call each other.
 
-ghost use Rattle.kernel_machine.specs.Invocations.{InvocationUnseen, SlotsAreGoodBut, SlotsAreSettled, SlotsButWithDomain, SlotsWithInvocation, StandingWithInvocation};
+ghost use Rattle.kernel_machine.specs.Invocations.{InvocationUnseen, SlotsAreGoodBut, SlotsAreSettled, SlotsButWithDomain, SlotsButWithWake, SlotsWithInvocation, StandingWithInvocation};
 
 /// What stands within a turn stands on where somebody calls, is reached or answers.
 pub fn standing_with_invocation()
@@ -25,6 +25,11 @@ pub fn slots_with_invocation()
 /// A domain is set in a slot that need not be good yet.
 pub fn slots_but_with_domain()
     ensures { SlotsButWithDomain }
+{}
+
+/// Slots that need not all be good yet are as good where all are woken that are parked on an object.
+pub fn slots_but_with_wake()
+    ensures { SlotsButWithWake }
 {}
 
 /// Slots are good again once those are that an invocation touched.

@@ -22,12 +22,12 @@ pub use changes::{
 };
 pub use invocations::{
     invocation_unseen, slots_are_good_but, slots_are_settled, slots_but_with_domain,
-    slots_with_invocation, standing_with_invocation,
+    slots_but_with_wake, slots_with_invocation, standing_with_invocation,
 };
 pub use keeps::{fixed_with_birth, fixed_with_rows, trees_with_birth, trees_with_numbers};
 pub use marks::{
-    good_with_park, good_with_wake, good_with_wake_of_slot, marks_unseen, slots_are_named,
-    standing_with_marks,
+    good_with_park, good_with_wake, good_with_wake_of_slot, marks_unseen, parked_with_wake,
+    slots_are_named, standing_with_marks,
 };
 pub use standing::{
     good_is_both, put_leaves, remap_leaves, replace_leaves, slots_changed, standing_with_birth,
