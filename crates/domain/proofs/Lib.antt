@@ -22,3 +22,5 @@ pub mod KeysTested
 pub mod Tested
 pub mod Living
 pub mod Ruled
+pub mod SlotLaws
+pub mod MarkLaws

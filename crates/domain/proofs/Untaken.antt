@@ -25,7 +25,7 @@ untaken_none (Taken owner count) e = absurd (omega arith)
 untaken_none Fixed e = refl
 untaken_none Unspelled e = refl
 
-all_null : (kernel : Kernel) → BankGood kernel → kernel.machine.nodes_taken ≡ 0 → domain_rows kernel ≡ (λ node. null_row)
+pub all_null : (kernel : Kernel) → BankGood kernel → kernel.machine.nodes_taken ≡ 0 → domain_rows kernel ≡ (λ node. null_row)
 unfolding rows taken_count
 all_null kernel good none = fun_ext (λ node. fun_ext (λ place.
     rw (untaken_none (entry_at kernel.node_entries node) (none_taken kernel.node_entries node (sym good.nodes.entries_good.number ∙ none))) refl))

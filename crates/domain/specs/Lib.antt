@@ -1,6 +1,8 @@
 -- in reading order
 pub mod Keys
 pub mod Domains
+pub mod Slots
+pub mod Marks
 pub mod Rules
 pub mod Sets
 pub mod Buffers

@@ -43,10 +43,11 @@ use Rattle.unix_rules.proofs.Changed.{put-reads}
 use Rattle.domain.specs.declared.types.Phase.TheVariants.{Run as Running}
 use Rattle.domain.specs.Phases.{FitsPhase, state_for, key_for}
 use Rattle.domain.specs.Domains.{Domain, Life, no_domain, domains, lives, roots}
+use Rattle.domain.specs.Slots.{room_of}
 use Rattle.kernel_machine.specs.Counts.{InodesCounted, DescriptionsCounted, opens}
 use Rattle.kernel_machine.specs.Good.{Good, MachineGood, MarksFit, ParkedGood}
 use Rattle.kernel_machine.specs.Held.{AllHeld}
-use Rattle.kernel_machine.specs.Machine.{machine_of, room_of, inodes_of, descriptions_of, page_owner_of}
+use Rattle.kernel_machine.specs.Machine.{machine_of, inodes_of, descriptions_of, page_owner_of}
 use Rattle.kernel_machine.specs.Processes.{HasMarks, IsInSlot, SlotsGood, HoldingsGood}
 use Rattle.kernel_machine.specs.Trees.{IsRootOf, RootsGood, KeepersGood, keeper}
 use Rattle.kernel_machine.specs.View.{view, inodes_in, descriptions_in, processes_in}

@@ -21,8 +21,9 @@ use Rattle.domain.specs.Keys.{is_meter, root_in, word_in, count_in}
 use Rattle.domain.specs.Lives.{HasLife, IsService, SetsLife}
 use Rattle.domain.specs.Rules.{written, NumberFits}
 use Rattle.domain.specs.Sets.{WritesNumbers}
+use Rattle.domain.specs.Slots.{room_of}
 use Rattle.domain.proofs.RowLaws.{here_at, changed_at, written_both}
-use Rattle.invoke.specs.Room.{room, room_by, slot_in, Seat, Stays, Enters, Leaves, Seats}
+use Rattle.invoke.specs.Room.{room, slot_in, Seat, Stays, Enters, Leaves, Seats}
 use Rattle.invoke.specs.Invokes.{InvokesBy, Invokes, life_key}
 
 -- ---- nothing is done
@@ -36,6 +37,7 @@ stays kernel = record {
   roots_now = refl;
   forest_now = refl;
   outside_now = λ outside. refl;
+  null_now = λ place. refl;
   services_rest = λ service place low apart. refl;
   service_life = λ service is. inl refl;
   services_now = λ service is. is;
@@ -63,9 +65,9 @@ room_lives rows f node place key same = fun_ext (λ root.
     (λ e g. if_life (is_meter (rows root 2)) (rows root 6) key (f root 6) (same ∙ ap (λ n. life_in (f n place)) (sym e) ∙ ap (λ n. life_in (f root n)) (sym g)))
     refl)
 
-room_places : (f : ℕ → ℕ → Key) (slot : ℕ) (key : Key) → room_by (written f (7 + slot / 16) (slot % 16) key) ≡ with_at (room_by f) slot key
-unfolding room_by
-room_places f slot key = changed_at (room_by f) (room_by (written f (7 + slot / 16) (slot % 16) key)) slot key
+room_places : (f : ℕ → ℕ → Key) (slot : ℕ) (key : Key) → room_of (written f (7 + slot / 16) (slot % 16) key) ≡ with_at (room_of f) slot key
+unfolding room_of
+room_places f slot key = changed_at (room_of f) (room_of (written f (7 + slot / 16) (slot % 16) key)) slot key
     (written_there f (7 + slot / 16) (slot % 16) key)
     (λ q apart. written_elsewhere f (7 + slot / 16) (slot % 16) key (7 + q / 16) (q % 16) (λ e g. apart (omega arith)))
 
@@ -75,7 +77,7 @@ room_roots f slot key low = fun_ext (λ s. ap (λ k. if nat_lt s 64 then root_in
     (written_elsewhere f (7 + slot / 16) (slot % 16) key (11 + s / 16) (s % 16) (λ e g. absurd (omega arith))))
 
 room_at : (kernel : Kernel) (slot : ℕ) → at (room kernel) slot ≡ fixed_rows kernel (7 + slot / 16) (slot % 16)
-unfolding at room_by
+unfolding at room_of
 room_at kernel slot = refl
 
 module _ (old new : Kernel) (root slot names : ℕ) (key was : Key) (low : slot < 64) (stood : at (room old) slot ≡ was) (same : life_in key ≡ life_in was) (seats : Seats old new root slot names key was) where
@@ -87,11 +89,12 @@ module _ (old new : Kernel) (root slot names : ℕ) (key was : Key) (low : slot 
     rest = seats.rest;
     lives_now = ap (λ r. lives_by r (fixed_rows new)) seats.rows_now ∙ ap (lives_by (domain_rows old)) seats.fixed_now
         ∙ room_lives (domain_rows old) (fixed_rows old) (7 + slot / 16) (slot % 16) key (same ∙ ap life_in (sym stood ∙ room_at old slot));
-    room_now = ap room_by seats.fixed_now ∙ room_places (fixed_rows old) slot key;
+    room_now = ap room_of seats.fixed_now ∙ room_places (fixed_rows old) slot key;
     domains_now = ap domain_at seats.rows_now;
     roots_now = ap roots_by seats.fixed_now ∙ room_roots (fixed_rows old) slot key low;
     forest_now = seats.forest_now;
     outside_now = seats.outside_now;
+    null_now = λ place. fixed_same 0 place (λ e. absurd (omega arith));
     services_rest = λ service place few apart. fixed_same service place (λ e. absurd (omega arith));
     service_life = λ service is. let high = is.high in inl (fixed_same service 6 (λ e. absurd (omega arith)));
     services_now = λ service is.
@@ -131,8 +134,14 @@ module _ (mid new : Kernel) (root : ℕ) (state : State) (count : ℕ) (has : Ha
       has
 
   room_same : room new ≡ room mid
-  unfolding room_by
+  unfolding room_of
   room_same = fun_ext (λ slot. fixed_high (7 + slot / 16) (slot % 16) (omega arith))
+
+  null_same : (place : ℕ) → fixed_rows new 0 place ≡ fixed_rows mid 0 place
+  null_same place = ⊎_elim
+      (λ (live : (at (domains mid) root).live ≡ true). ap (λ (f : ℕ → ℕ → Key). f 0 place) (writes live).fixed_now)
+      (λ (is : IsService (fixed_rows mid) root). let least = is.low in sets.fixed_now 0 place (λ e g. absurd (omega arith)))
+      has
 
   pub then_set : (old : Kernel) (now : ℕ → Life) (rooms : ℕ → Key) (entries : List (Entry NodeOwner)) (key was : Key)
       → InvokesBy old mid now rooms entries key was → InvokesBy old new (with_at now root (record { state = state; count = count })) rooms entries key was
@@ -144,6 +153,7 @@ module _ (mid new : Kernel) (root : ℕ) (state : State) (count : ℕ) (has : Ha
     roots_now = sets.roots_now ∙ first.roots_now;
     forest_now = sets.forest_now ∙ first.forest_now;
     outside_now = λ outside. sets.outside_now (and_outside outside was) ∙ first.outside_now outside;
+    null_now = λ place. null_same place ∙ first.null_now place;
     services_rest = λ service place few apart. sets.fixed_now service place (λ e g. apart g) ∙ first.services_rest service place few apart;
     service_life = life;
     services_now = λ service is. sets.services_now service (first.services_now service is);

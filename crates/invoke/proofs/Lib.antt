@@ -3,3 +3,5 @@ mod Seating
 mod Composing
 mod Reaching
 mod Seated
+mod Waking
+pub mod Leaving

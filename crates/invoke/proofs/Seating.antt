@@ -27,7 +27,8 @@ use Rattle.kernel_forest.proofs.RowLaws.{domains_apart, fixed_apart, rows-node_c
 use Rattle.unix_model.specs.Tables.{at}
 use Rattle.domain.specs.Rules.{written}
 use Rattle.domain.proofs.Writing.{fixed_key}
-use Rattle.invoke.specs.Room.{room, room_by, Seats}
+use Rattle.domain.specs.Slots.{room_of}
+use Rattle.invoke.specs.Room.{room, Seats}
 
 -- ---- how often a node of a domain is counted makes no difference to trees and rows
 
@@ -79,11 +80,11 @@ recounts old new root was now named e =
 -- ---- the place of a slot
 
 room_there : (kernel : Kernel) (slot : ℕ) → BankGood kernel → slot < 64 → key_table kernel.keys (16 * (7 + slot / 16) + slot % 16) ≡ at (room kernel) slot
-unfolding at room_by
+unfolding at room_of
 room_there kernel slot good low = fixed_key kernel (7 + slot / 16) (slot % 16) good (omega arith) (omega arith)
 
 room_same : (old new : Kernel) (slot : ℕ) → fixed_rows new ≡ fixed_rows old → at (room new) slot ≡ at (room old) slot
-room_same old new slot same = ap (λ f. at (room_by f) slot) same
+room_same old new slot same = ap (λ f. at (room_of f) slot) same
 
 names_root : (root : NodeId) (count : ℕ) → key_names_node root.0 (Resume root count) ≡ true
 names_root root count = eq-eqb root.0 root.0 refl

@@ -25,7 +25,7 @@ life_key life = state_key (state_number life.state) life.count
 -- These are the lives and the resume room now, and this is how often nodes are named. All other tables are as they were but that
 -- of keys, and so are the domains, the slot table, the trees, how often anything is named, and of services all keys but those with
 -- their lives. What names trees from outside is as before, if the key that stands in the room now and the one that stood there are
--- counted in.
+-- counted in. Node 0 is nobody's.
 pub record InvokesBy (old new : Kernel) (now : ℕ → Life) (rooms : ℕ → Key) (entries : List (Entry NodeOwner)) (key was : Key) : Type 0 where
   pub rest : new ≡ record old { node_entries = entries; keys = new.keys }
   pub lives_now : lives new ≡ now
@@ -34,6 +34,7 @@ pub record InvokesBy (old new : Kernel) (now : ℕ → Life) (rooms : ℕ → Ke
   pub roots_now : roots new ≡ roots old
   pub forest_now : forest_of new ≡ forest_of old
   pub outside_now : (outside : Outside) → outside_trees new (and_outside outside was) ≡ outside_trees old (and_outside outside key)
+  pub null_now : (place : ℕ) → fixed_rows new 0 place ≡ fixed_rows old 0 place
   pub services_rest : (service place : ℕ) → service < 7 → place ≢ 6 → fixed_rows new service place ≡ fixed_rows old service place
   pub service_life : (service : ℕ) → IsService (fixed_rows old) service
       → (fixed_rows new service 6 ≡ fixed_rows old service 6) ⊎ (fixed_rows new service 6 ≡ life_key (at now service))

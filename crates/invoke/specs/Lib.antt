@@ -3,3 +3,5 @@ pub mod Steps
 pub mod Laws
 pub mod Room
 pub mod Invokes
+pub mod Parking
+pub mod Others

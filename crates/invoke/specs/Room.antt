@@ -17,13 +17,10 @@ use Rattle.domain.specs.declared.types.State.TheVariants.{Available, Running, Wa
 use Rattle.domain.specs.Domains.{domains, lives}
 use Rattle.domain.specs.Lives.{HasLife}
 use Rattle.domain.specs.Rules.{written}
-
--- slot s has key s % 16 of node 7 + s / 16
-unfoldable pub room_by : (ℕ → ℕ → Key) → ℕ → Key
-room_by fixed = λ slot. fixed (7 + slot / 16) (slot % 16)
+use Rattle.domain.specs.Slots.{room_of}
 
 abbrev pub room : Kernel → ℕ → Key
-room kernel = room_by (fixed_rows kernel)
+room kernel = room_of (fixed_rows kernel)
 
 -- the place of the domain of a root
 abbrev pub slot_in : Kernel → ℕ → ℕ

@@ -16,6 +16,7 @@ ghost use Rattle.domain.specs.Tests.{is_null};
 ghost use Rattle.invoke.specs.Steps.{Calls, Forks, Returns, Answering, Reaches, step, with_state};
 ghost use Rattle.invoke.specs.Room.{Enters, MayUse, IsSeated};
 ghost use Rattle.invoke.specs.Invokes.{Invokes, Goes, KeepsSeat, IsCaller, root_in_slot, seat_of, given_by, seat_blocks, reached_blocks};
+ghost use Rattle.invoke.specs.Others.{LeavesOthers, reached_by};
 
 use super::reach::{resume, set_life, start};
 use super::room::enter_room;
@@ -57,6 +58,7 @@ fn call_from<T: Store>(store: &mut T, slot: u8, root: NodeId, to: Key) -> Result
     requires caller { IsCaller (kernel_of (T.memory store.old)) slot root.0 }
     ensures goes { IfOk result (λ key. let old = kernel_of (T.memory store.old) in Goes old (kernel_of (T.memory store.new)) (Calls root.0 to) (Answering key) (Enters root.0 (at (lives old) root.0).count)) }
     ensures seated { IsSeated (kernel_of (T.memory store.new)) root.0 }
+    ensures others { LeavesOthers (kernel_of (T.memory store.old)) (kernel_of (T.memory store.new)) (root.0 ∷ []) }
     ensures refused { IfErr result (λ fault. step (lives (kernel_of (T.memory store.old))) (Calls root.0 to) ≡ Err fault) }
     ensures unchanged { IfErr result (λ fault. store.new ≡ store.old) }
     ensures alive { (other : ℕ) → HasLife (kernel_of (T.memory store.old)) other → HasLife (kernel_of (T.memory store.new)) other }
@@ -85,6 +87,7 @@ pub fn call<T: Store>(store: &mut T, slot: u8, to: Key) -> Result<Key, InvokeFau
     requires caller { let old = kernel_of (T.memory store.old) in IsCaller old slot (root_in_slot old slot) }
     ensures goes { IfOk result (λ key. let old = kernel_of (T.memory store.old) in let root = root_in_slot old slot in Goes old (kernel_of (T.memory store.new)) (Calls root to) (Answering key) (Enters root (at (lives old) root).count)) }
     ensures seated { IsSeated (kernel_of (T.memory store.new)) (root_in_slot (kernel_of (T.memory store.old)) slot) }
+    ensures others { let old = kernel_of (T.memory store.old) in LeavesOthers old (kernel_of (T.memory store.new)) (root_in_slot old slot ∷ []) }
     ensures refused { IfErr result (λ fault. let old = kernel_of (T.memory store.old) in step (lives old) (Calls (root_in_slot old slot) to) ≡ Err fault) }
     ensures unchanged { IfErr result (λ fault. store.new ≡ store.old) }
     ensures alive { (other : ℕ) → HasLife (kernel_of (T.memory store.old)) other → HasLife (kernel_of (T.memory store.new)) other }
@@ -111,6 +114,7 @@ pub fn fork<T: Store>(store: &mut T, to: Key, message: Message) -> Result<Delive
     ensures goes { IfOk result (λ delivered. let old = kernel_of (T.memory store.old) in Goes old (kernel_of (T.memory store.new)) (Forks to) (Reaches delivered.to.0 delivered.byte) (seat_of old to)) }
     ensures message { IfOk result (λ delivered. delivered.message ≡ message) }
     ensures seated { KeepsSeat (kernel_of (T.memory store.old)) (kernel_of (T.memory store.new)) to }
+    ensures others { LeavesOthers (kernel_of (T.memory store.old)) (kernel_of (T.memory store.new)) (reached_by to) }
     ensures refused { IfErr result (λ fault. step (lives (kernel_of (T.memory store.old))) (Forks to) ≡ Err fault) }
     ensures unchanged { IfErr result (λ fault. store.new ≡ store.old) }
     ensures alive { (other : ℕ) → HasLife (kernel_of (T.memory store.old)) other → HasLife (kernel_of (T.memory store.new)) other }
@@ -163,6 +167,7 @@ fn ret_to<T: Store>(
     requires may { MayUse (kernel_of (T.memory store.old)) to }
     ensures goes { IfOk result (λ delivered. let old = kernel_of (T.memory store.old) in Goes old (kernel_of (T.memory store.new)) (Returns from.0 to) (Reaches delivered.to.0 delivered.byte) (seat_of old to)) }
     ensures message { IfOk result (λ delivered. delivered.message ≡ message) }
+    ensures others { LeavesOthers (kernel_of (T.memory store.old)) (kernel_of (T.memory store.new)) (from.0 ∷ reached_by to) }
     ensures refused { IfErr result (λ fault. step (lives (kernel_of (T.memory store.old))) (Returns from.0 to) ≡ Err fault) }
     ensures unchanged { IfErr result (λ fault. store.new ≡ store.old) }
     ensures alive { (other : ℕ) → HasLife (kernel_of (T.memory store.old)) other → HasLife (kernel_of (T.memory store.new)) other }
@@ -196,6 +201,7 @@ pub fn ret<T: Store>(
     requires may { MayUse (kernel_of (T.memory store.old)) to }
     ensures goes { IfOk result (λ reached. let old = kernel_of (T.memory store.old) in Goes old (kernel_of (T.memory store.new)) (Returns from.0 to) (given_by reached) (seat_of old to)) }
     ensures message { IfOk result (λ reached. IfSome reached (λ delivered. delivered.message ≡ message)) }
+    ensures others { LeavesOthers (kernel_of (T.memory store.old)) (kernel_of (T.memory store.new)) (from.0 ∷ reached_by to) }
     ensures refused { IfErr result (λ fault. step (lives (kernel_of (T.memory store.old))) (Returns from.0 to) ≡ Err fault) }
     ensures unchanged { IfErr result (λ fault. store.new ≡ store.old) }
     ensures alive { (other : ℕ) → HasLife (kernel_of (T.memory store.old)) other → HasLife (kernel_of (T.memory store.new)) other }

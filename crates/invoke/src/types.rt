@@ -29,3 +29,12 @@ pub enum InvokeFault {
     /// The domain that is called isn't available, or the one that calls doesn't run.
     NotAvailable,
 }
+
+/// What a process that is parked waits for.
+#[derive(Clone, Copy, Debug, PartialEq, Eq)]
+pub enum WaitFor {
+    /// That the pipe with this inode is read, written or closed.
+    Pipe(u32),
+    /// That a child ends.
+    Child,
+}

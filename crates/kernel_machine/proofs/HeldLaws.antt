@@ -4,16 +4,9 @@ use Rattle.std.proofs.lemmas.Bool.{cases_eq}
 use Rattle.kernel_tables.specs.declared.inode.Inode.{Inode}
 use Rattle.unix_model.specs.Tables.{at, with_at}
 use Rattle.unix_model.proofs.TableLaws.{at-with_at, at-with_at-other}
-use Rattle.domain.specs.Domains.{Domain}
+pub use Rattle.domain.proofs.MarkLaws.{stays}
 use Rattle.kernel_machine.specs.Trees.{HasTree}
 use Rattle.kernel_machine.specs.Bounds as law
-
--- a field that stays is the same everywhere
-pub stays : {X : Type 0} (domains : ℕ → Domain) (root : ℕ) (domain : Domain) (field : Domain → X) → field domain ≡ field (at domains root) → (other : ℕ) → field (at (with_at domains root domain) other) ≡ field (at domains other)
-stays domains root domain field same other = ⊎_elim
-    (λ (e : other ≡ root). ap (λ n. field (at (with_at domains root domain) n)) e ∙ ap field (at-with_at domains root domain) ∙ same ∙ ap (λ n. field (at domains n)) (sym e))
-    (λ (apart : other ≢ root). ap field (at-with_at-other domains root other domain apart))
-    (cases_eq other root)
 
 pub held_with_domain : law.HeldWithDomain
 held_with_domain machine root domain live space buffer held = record {

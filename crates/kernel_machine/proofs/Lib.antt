@@ -30,3 +30,5 @@ pub mod OwnerLaws
 pub mod BufferStands
 pub mod BirthStands
 pub mod EndStands
+pub mod MarksStand
+pub mod InvocationsStand

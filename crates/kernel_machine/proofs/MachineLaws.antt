@@ -13,7 +13,8 @@ use Rattle.std.proofs.lemmas.List.{get_or-set_same, get_or-set_other}
 use Rattle.forest.specs.Forest.{Forest}
 use Rattle.unix_model.specs.Tables.{with_at}
 use Rattle.domain.specs.Domains.{domain_at, domains, lives, lives_by, roots_by}
-use Rattle.kernel_machine.specs.Machine.{KernelMachine, machine_of, room_of, inodes_of, descriptions_of, held}
+use Rattle.domain.specs.Slots.{room_of}
+use Rattle.kernel_machine.specs.Machine.{KernelMachine, machine_of, inodes_of, descriptions_of, held}
 use Rattle.kernel_machine.specs.Laws as law
 use Rattle.kernel_machine.proofs.ViewLaws.{changed_at}
 

@@ -2,7 +2,7 @@
 use Rattle.std.proofs.Common.{◌≡◌, ◌≢◌, ℕ, zero, suc, ◌+◌, ◌-◌, ◌^◌, ◌<◌, ◌≤◌, Bool, true, false, Option, Some, None, List, [], ◌∷◌, length, arith, refl, sym, ap, ◌∙◌, ⊎_elim, ◌||◌, ◌/◌, ◌%◌, nat_lt}
 use Rattle.std.specs.Option.{is_some, IsSome}
 use Rattle.std.specs.Prelude.{option_map}
-use Rattle.std.proofs.lemmas.Bool.{cases_Bool, cases_lt, cases_eq, ltb-true, le-ltb, eq-eqb, ne_eqb, or_left, or_right}
+use Rattle.std.proofs.lemmas.Bool.{cases_lt, cases_eq, le-ltb, eq-eqb, ne_eqb, or_left, or_right}
 use Rattle.std.proofs.lemmas.List.{length-replicate}
 use Rattle.kn_base.specs.declared.key.Key.{Key}
 use Rattle.kn_base.specs.Memory.{zero_page}
@@ -14,7 +14,6 @@ use Rattle.kernel_tables.specs.declared.inode.InodeKind.{InodeKind}
 use Rattle.kernel_tables.specs.declared.inode.InodeKind.TheVariants.{File, Dir, Pipe, Console}
 use Rattle.kernel_tables.specs.Kernel.{Kernel, first_page, memory_page}
 use Rattle.kernel_tables.specs.Rows.{entry_at, fixed_rows}
-use Rattle.unix_model.specs.Limits.{slot_count}
 use Rattle.unix_model.specs.Numbers.{pages_of}
 use Rattle.unix_model.specs.Tables.{at, nothing, any_below}
 use Rattle.forest.specs.Objects.{Object, PageObject, NodeObject, Owner, OfProcess, OfFile}
@@ -29,6 +28,7 @@ use Rattle.kernel_forest.proofs.Bridge.{page_inside}
 use Rattle.file_tables.specs.Roots.{named_by}
 use Rattle.user_copy.specs.SpaceMemory.{memory_by, page_of}
 use Rattle.domain.specs.Domains.{domains, roots_by}
+pub use Rattle.domain.proofs.SlotLaws.{slot-below}
 use Rattle.kernel_machine.specs.Machine.{machine_of, inodes_of, page_owner_of}
 use Rattle.kernel_machine.specs.Contents.{mapped_bytes}
 use Rattle.kernel_machine.specs.Trees.{HasTree}
@@ -68,13 +68,6 @@ pub mapped-has : (keys : ℕ → Key) (space limit number page : ℕ) → number
 unfolding maps
 mapped-has keys space limit number page below e =
     any-at (λ k. is_label page (shared_page keys (space, k))) limit number below (ap (is_label page) e ∙ eq-eqb page page refl)
-
-pub slot-below : (fixed : ℕ → ℕ → Key) (slot root : ℕ) → at (roots_by fixed) slot ≡ Some root → slot < 64
-unfolding roots_by at
-slot-below fixed slot root e = ⊎_elim
-    (λ (t : nat_lt slot slot_count ≡ true). ltb-true slot slot_count t)
-    (λ (t : nat_lt slot slot_count ≡ false). absurd (let no : None ≡ Some root = rw t at e in cc))
-    (cases_Bool (nat_lt slot slot_count))
 
 tree-has : (keys : ℕ → Key) (row : Inode) (kind : InodeKind) (page : ℕ) → HasTree kind → maps keys (Some row.root) (pages_of row.length) page ≡ true → kind-has keys row kind page ≡ true
 unfolding kind-has

@@ -173,7 +173,7 @@ is-node old new root node live regs descriptors is =
 module _ (old new : Kernel) (writes : WritesNumbers old new) (bank : BankGood new) (rows : RowsGood (domain_rows new)) (standing : Standing old)
     (nodes : (root node : ℕ) → IsNodeOf (domain_rows old) root node → IsNodeOf (domain_rows new) root node)
     (holdings : HoldingsGood (domains new) (forest_of old) (page_owners old)) (held : AllHeld (domains new) (forest_of old) (page_owners old) (inodes_of old)) where
-  with-numbers : Standing new
+  pub with-numbers : Standing new
   unfolding inodes_of
   with-numbers =
       let named : named_by new.inodes ≡ named_by old.inodes = ap (λ (k : Kernel). named_by k.inodes) writes.rest in

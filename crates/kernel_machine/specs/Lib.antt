@@ -12,3 +12,5 @@ pub mod Keeps
 pub mod Standing
 pub mod Loose
 pub mod Bounds
+pub mod Marks
+pub mod Invocations

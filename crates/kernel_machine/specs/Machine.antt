@@ -1,5 +1,5 @@
 -- The machine in which servers speak: one record, and one function of the kernel's tables.
-use Rattle.std.specs.Prelude.{ℕ, ◌+◌, ◌-◌, ◌/◌, ◌%◌, nat_lt, if◌then◌else◌, Option, Some, None, List}
+use Rattle.std.specs.Prelude.{ℕ, ◌-◌, nat_lt, if◌then◌else◌, Option, Some, None, List}
 use Rattle.kn_base.specs.declared.key.Key.{Key}
 use Rattle.kernel_tables.specs.declared.row.Row.{Row}
 use Rattle.kernel_tables.specs.declared.row.Row.TheVariants.{Free, Used, Unspelled}
@@ -14,6 +14,7 @@ use Rattle.kernel_tables.specs.Rows.{entry_at, fixed_rows}
 use Rattle.forest.specs.Forest.{Forest}
 use Rattle.kernel_forest.specs.Trees.{forest_of}
 use Rattle.domain.specs.Domains.{Domain as Process, Life, domains, lives, roots}
+use Rattle.domain.specs.Slots.{room_of}
 
 -- Slots name the roots of their domains, and the resume room has the key by which the domain of a slot goes on. What a root
 -- is, and whether it is called, runs or waits, is by the number of its node. Trees, the bytes of pages and who owns them,
@@ -29,10 +30,6 @@ pub record KernelMachine : Type 0 where
   pub inodes : ℕ → Option Inode
   pub descriptions : ℕ → Option Description
   pub words : Words
-
--- slot s has key s % 16 of node 7 + s / 16 in the resume room
-unfoldable pub room_of : (ℕ → ℕ → Key) → ℕ → Key
-room_of fixed = λ slot. fixed (7 + slot / 16) (slot % 16)
 
 -- what a row holds
 abbrev pub held : {X : Type 0} → Row X → Option X

@@ -4,8 +4,10 @@
 mod bounds;
 mod calls;
 mod changes;
+mod invocations;
 mod keeps;
 mod loose;
+mod marks;
 mod standing;
 mod views;
 
@@ -19,6 +21,10 @@ pub use changes::{
     description_written, files_written, inode_written, key_handed_over, numbers_written,
     spaces_changed,
 };
+pub use invocations::{
+    invocation_unseen, slots_are_good_but, slots_are_settled, slots_but_with_domain,
+    slots_but_with_wake, slots_with_invocation, standing_with_invocation,
+};
 pub use keeps::{
     fixed_with_birth, fixed_with_gone, fixed_with_rows, store_is_whole, trees_with_birth,
     trees_with_numbers,
@@ -27,6 +33,10 @@ pub use loose::{
     nothing_loose, standing_with_domain, standing_with_loose, standing_with_new_inode,
     standing_with_page, standing_with_pipe, standing_with_root, standing_with_space,
     standing_with_space_dropped, standing_with_space_set, standing_without_page,
+};
+pub use marks::{
+    good_with_park, good_with_wake, good_with_wake_of_slot, marks_unseen, parked_with_wake,
+    slots_are_named, standing_with_marks,
 };
 pub use standing::{
     good_is_both, owns_leaves, put_leaves, remap_leaves, replace_leaves, slots_born, slots_changed,

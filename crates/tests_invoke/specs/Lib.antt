@@ -1,1 +1,2 @@
 pub mod Caller
+pub mod People

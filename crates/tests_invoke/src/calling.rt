@@ -1,16 +1,21 @@
 //! The first domain calls, its call is answered, and what may not be reached is refused.
 
-ghost use Rattle.std.specs.Prelude.{◌≡◌, ℕ, IfOk};
+ghost use Rattle.std.specs.Prelude.{◌≡◌, ◌≢◌, ℕ, IfOk};
 ghost use Rattle.kn_base.specs.Memory.{Memory};
 ghost use Rattle.kn_base.specs.declared.key.Key.TheVariants.{Start};
 ghost use Rattle.kernel_tables.specs.Kernel.{Kernel, kernel_of, first_page, node_count};
 ghost use Rattle.kernel_tables.specs.Rows.{domain_rows};
 ghost use Rattle.obj_store.specs.Store.{ram_memory};
 ghost use Rattle.space_bank.specs.Bank.{BankGood};
+ghost use Rattle.unix_model.specs.Tables.{at};
+ghost use Rattle.domain.specs.declared.types.State.TheVariants.{Running};
+ghost use Rattle.domain.specs.Domains.{domains, lives};
 ghost use Rattle.domain.specs.Rules.{RowsGood};
 ghost use Rattle.domain.specs.Lives.{HasLife};
+ghost use Rattle.domain.specs.Slots.{SlotsDiffer};
 ghost use Rattle.invoke.specs.Invokes.{IsCaller, root_in_slot};
 
+use super::answering::serve;
 use super::caller::{DIRECTORIES, SLOT, first_caller};
 use domain::{State, count_of, state_of};
 use invoke::{Delivered, InvokeFault, Message, call, fork, ret};
@@ -19,6 +24,10 @@ use kn_base::{Key, NodeId, PageId, Store};
 use obj_store::{NoMemory, RamStore};
 use std::alloc::Global;
 use std::test::Fail;
+
+// A call was refused that shouldn't be.
+#[derive(Debug, Drop)]
+struct Refused;
 
 #[derive(Drop)]
 struct Calling {
@@ -38,6 +47,9 @@ fn message() -> Message {
 fn machine(alloc: Global) -> Result<Calling, Fail>
     ensures caller { IfOk result (λ m. IsCaller (kernel_of (ram_memory m.store)) 5 m.root.0) }
     ensures directories { IfOk result (λ m. HasLife (kernel_of (ram_memory m.store)) 3) }
+    ensures alone { IfOk result (λ m. SlotsDiffer (domains (kernel_of (ram_memory m.store)))) }
+    ensures apart { IfOk result (λ m. m.root.0 ≢ 3) }
+    ensures runs { IfOk result (λ m. (at (lives (kernel_of (ram_memory m.store))) m.root.0).state ≡ Running) }
     ensures rows { IfOk result (λ m. RowsGood (domain_rows (kernel_of (ram_memory m.store)))) }
     ensures good { IfOk result (λ m. BankGood (kernel_of (ram_memory m.store))) }
 {
@@ -113,5 +125,63 @@ fn a_page_is_not_reached(rt: HostRuntime) -> Result<(), Fail> {
         Err(InvokeFault::NotStart)
     );
     assert_eq!(rt; call(&mut store, SLOT, page), Err(InvokeFault::NotStart));
+    Ok(())
+}
+
+#[test]
+fn a_service_answers_and_may_be_called_again(rt: HostRuntime) -> Result<(), Fail> {
+    let Calling { mut store, root } = machine(rt.alloc())?;
+    match call(&mut store, SLOT, start()) {
+        Ok(_) => {}
+        Err(_) => return Err(Fail::from(Refused)),
+    }
+    let answered = Delivered {
+        to: root,
+        byte: 0,
+        message: message(),
+    };
+    assert_eq!(rt; serve(&mut store, root, message()), Ok(Some(answered)));
+    assert_eq!(rt; state_of(&store, root), State::Running);
+    assert_eq!(rt; count_of(&store, root), 1);
+    assert_eq!(rt; state_of(&store, DIRECTORIES), State::Available);
+    assert_eq!(rt; count_of(&store, DIRECTORIES), 0);
+    Ok(())
+}
+
+#[test]
+fn who_passes_on_may_be_called(rt: HostRuntime) -> Result<(), Fail> {
+    let Calling { mut store, root } = machine(rt.alloc())?;
+    let called = Delivered {
+        to: DIRECTORIES,
+        byte: 9,
+        message: message(),
+    };
+    assert_eq!(rt; ret(&mut store, root, start(), message()), Ok(Some(called)));
+    assert_eq!(rt; state_of(&store, root), State::Available);
+    assert_eq!(rt; state_of(&store, DIRECTORIES), State::Running);
+    Ok(())
+}
+
+#[test]
+fn nobody_is_reached_by_null(rt: HostRuntime) -> Result<(), Fail> {
+    let Calling { mut store, root } = machine(rt.alloc())?;
+    assert_eq!(rt; ret(&mut store, root, Key::Null, message()), Ok(None));
+    assert_eq!(rt; state_of(&store, root), State::Available);
+    assert_eq!(rt; count_of(&store, root), 0);
+    Ok(())
+}
+
+#[test]
+fn a_refused_answer_changes_nothing(rt: HostRuntime) -> Result<(), Fail> {
+    let Calling { mut store, root } = machine(rt.alloc())?;
+    let page = Key::Page {
+        id: PageId(100),
+        writable: false,
+    };
+    assert_eq!(rt;
+        ret(&mut store, root, page, message()),
+        Err(InvokeFault::NotStart)
+    );
+    assert_eq!(rt; state_of(&store, root), State::Running);
     Ok(())
 }
