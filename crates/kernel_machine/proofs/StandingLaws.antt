@@ -414,7 +414,7 @@ module _ (old : Kernel) (page : ℕ) (owner : PageOwner) (bytes : List ℕ) (own
       (get_or-set_other old.bank (page - first_page old.size) (mapping.page - first_page old.size) bytes [] (λ e. t.0 (omega (arith, e, in-bank)))))
       (mapped-apart space number mapping is mapped)
 
-  same-memory : (space : ℕ) → IsSpace (forest_of old) [] space → memory_by (memory_page written) (map_of (forest_of old).keys space) ≡ memory_by (memory_page old) (map_of (forest_of old).keys space)
+  pub same-memory : (space : ℕ) → IsSpace (forest_of old) [] space → memory_by (memory_page written) (map_of (forest_of old).keys space) ≡ memory_by (memory_page old) (map_of (forest_of old).keys space)
   unfolding memory_by
   same-memory space is = fun_ext (λ number. made-same (page_of (memory_page written)) (page_of (memory_page old)) (map_of (forest_of old).keys space number)
       (λ mapping mapped. ap (λ content. let now : Page = record { writable = mapping.writable; bytes = content } in now) (same-bytes space number mapping is mapped)))

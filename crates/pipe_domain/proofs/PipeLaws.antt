@@ -1,0 +1,108 @@
+-- What the inode of a pipe has, in a machine in which all stands.
+use Rattle.std.proofs.Common.{◌≡◌, ℕ, ◌+◌, ◌-◌, ◌<◌, ◌≤◌, false, Some, None, length, arith, refl, sym, ap, subst, ◌∙◌, ⊎_elim}
+use Rattle.std.proofs.lemmas.Bool.{cases_lt, lt-ltb, le-ltb}
+use Rattle.std.proofs.lemmas.List.{get_or_past}
+use Rattle.kernel_tables.specs.declared.entry.Entry.{Entry}
+use Rattle.kernel_tables.specs.declared.entry.Entry.TheVariants.{Free, Taken, Fixed, Unspelled}
+use Rattle.kernel_tables.specs.declared.entry.PageOwner.{PageOwner}
+use Rattle.kernel_tables.specs.declared.entry.PageOwner.TheVariants.{Pipe as PipePage}
+use Rattle.kernel_tables.specs.declared.inode.Inode.{Inode}
+use Rattle.kernel_tables.specs.declared.inode.InodeKind.{InodeKind}
+use Rattle.kernel_tables.specs.declared.inode.InodeKind.TheVariants.{Pipe}
+use Rattle.kernel_tables.specs.declared.row.Row.{Row}
+use Rattle.kernel_tables.specs.Kernel.{Kernel, IsBankPage, first_page, bank_page, memory_page}
+use Rattle.kernel_tables.specs.Rows.{entry_at}
+use Rattle.space_bank.specs.FreeList.{is_free}
+use Rattle.file_tables.specs.Rows.{IsInodeAt, IsInodeRow, IsOfKind, IsPipe}
+use Rattle.unix_model.specs.Tables.{at}
+use Rattle.kernel_forest.specs.Trees.{forest_of}
+use Rattle.kernel_machine.specs.Machine.{held, inodes_of, owner_in, page_owner_of}
+use Rattle.kernel_machine.specs.Standing.{Standing, page_owners}
+use Rattle.kernel_machine.proofs.MemoryLaws.{page-of}
+use Rattle.pipe_domain.specs.Pipes.{HasRing, IsPipeAt, pipe_at, less_by, more_by}
+
+-- an entry of an owner is taken
+owned-used : (entry : Entry PageOwner) (owner : PageOwner) → owner_in entry ≡ Some owner → is_free entry ≡ false
+owned-used (Free next) owner e = let wrong : None ≡ Some owner = e in cc
+owned-used (Taken held count) owner e = refl
+owned-used Fixed owner e = refl
+owned-used Unspelled owner e = refl
+
+module _ (kernel : Kernel) (page : ℕ) (owner : PageOwner) (owned : at (page_owners kernel) page ≡ Some owner) (standing : Standing kernel) where
+  page-low : first_page kernel.size ≤ page
+  unfolding page_owner_of at
+  page-low = ⊎_elim
+      (λ (t : page < first_page kernel.size). let wrong : None ≡ Some owner = rw (lt-ltb page (first_page kernel.size) t) at owned in cc)
+      (λ (t : first_page kernel.size ≤ page). t)
+      (cases_lt page (first_page kernel.size))
+
+  its-entry : owner_in (entry_at kernel.page_entries (page - first_page kernel.size)) ≡ Some owner
+  unfolding page_owner_of at
+  its-entry = rw (le-ltb page (first_page kernel.size) page-low) at owned
+
+  page-used : is_free (entry_at kernel.page_entries (page - first_page kernel.size)) ≡ false
+  page-used = owned-used (entry_at kernel.page_entries (page - first_page kernel.size)) owner its-entry
+
+  page-high : page - first_page kernel.size < kernel.size
+  page-high = ⊎_elim
+      (λ (t : page - first_page kernel.size < kernel.size). t)
+      (λ (past : kernel.size ≤ page - first_page kernel.size). ⊎_elim
+      (λ (inside : page - first_page kernel.size < length kernel.page_entries).
+      let wrong : None ≡ Some owner = sym (ap owner_in (standing.bank.pages.entries_good.unused (page - first_page kernel.size) past inside)) ∙ its-entry in cc)
+      (λ (outside : length kernel.page_entries ≤ page - first_page kernel.size).
+      let wrong : None ≡ Some owner = sym (ap owner_in (get_or_past kernel.page_entries (page - first_page kernel.size) Unspelled outside)) ∙ its-entry in cc)
+      (cases_lt (page - first_page kernel.size) (length kernel.page_entries)))
+      (cases_lt (page - first_page kernel.size) kernel.size)
+
+  pub page-in-bank : IsBankPage kernel.size page
+  page-in-bank = record { low = page-low; high = omega (arith, page-low, page-high) }
+
+  pub page-whole : length (bank_page kernel page) ≡ 4096
+  page-whole = standing.whole (page - first_page kernel.size) (omega (arith, page-high, standing.bank.pages.pages))
+
+-- what the table of inodes says of a pipe
+pub pipe-there : (kernel : Kernel) (pipe : ℕ) → IsPipeAt kernel pipe → at (inodes_of kernel) pipe ≡ Some (pipe_at kernel pipe)
+unfolding inodes_of at
+pipe-there kernel pipe is = ap held is.row
+
+of-pipe : (kind : InodeKind) (inode : Inode) → kind ≡ Pipe → IsOfKind kind inode → IsPipe inode
+of-pipe kind inode pipe right = subst (λ (k : InodeKind). IsOfKind k inode) pipe right
+
+module _ (kernel : Kernel) (pipe : ℕ) (standing : Standing kernel) (is : IsPipeAt kernel pipe) where
+  pipe-owned : at (page_owners kernel) (pipe_at kernel pipe).root ≡ Some PipePage
+  pipe-owned = page-of (forest_of kernel) (memory_page kernel) (page_owners kernel) (pipe_at kernel pipe) (pipe_at kernel pipe).kind (standing.roots.each pipe (pipe_at kernel pipe) (pipe-there kernel pipe is)) is.kind
+
+  pipe-right : IsInodeAt pipe (pipe_at kernel pipe)
+  pipe-right = subst (λ (row : Row Inode). IsInodeRow pipe row) is.row (standing.inodes.right pipe is.number)
+
+  pub pipe-ring : HasRing kernel pipe (pipe_at kernel pipe)
+  pipe-ring =
+      let of_kind = of-pipe (pipe_at kernel pipe).kind (pipe_at kernel pipe) is.kind pipe-right.of_kind in
+      record {
+        same = refl;
+        right = pipe-right;
+        kind = is.kind;
+        size = of_kind.length;
+        start = of_kind.start;
+        page = page-in-bank kernel (pipe_at kernel pipe).root PipePage pipe-owned standing;
+        used = page-used kernel (pipe_at kernel pipe).root PipePage pipe-owned standing;
+        owned = pipe-owned;
+        whole = page-whole kernel (pipe_at kernel pipe).root PipePage pipe-owned standing;
+      }
+
+-- the inode of a pipe, which holds less or more
+pub less-right : (pipe : ℕ) (inode : Inode) (count : ℕ) → inode.length ≤ 4096 → inode.kind ≡ Pipe → IsInodeAt pipe inode → IsInodeAt pipe (less_by inode count)
+less-right pipe inode count few kind right = record {
+  of_kind = subst (λ (k : InodeKind). IsOfKind k (less_by inode count)) (sym kind) (record { length = omega (arith, few); start = omega arith; no_parent = (of-pipe inode.kind inode kind right.of_kind).no_parent });
+  console = right.console;
+  root_kind = right.root_kind;
+  root_parent = right.root_parent;
+}
+
+pub more-right : (pipe : ℕ) (inode : Inode) (count : ℕ) → inode.length + count ≤ 4096 → inode.kind ≡ Pipe → IsInodeAt pipe inode → IsInodeAt pipe (more_by inode count)
+more-right pipe inode count fits kind right = record {
+  of_kind = subst (λ (k : InodeKind). IsOfKind k (more_by inode count)) (sym kind) (record { length = fits; start = (of-pipe inode.kind inode kind right.of_kind).start; no_parent = (of-pipe inode.kind inode kind right.of_kind).no_parent });
+  console = right.console;
+  root_kind = right.root_kind;
+  root_parent = right.root_parent;
+}

@@ -1,0 +1,4 @@
+-- in reading order
+pub mod Rings
+pub mod Ends
+pub mod Pipes

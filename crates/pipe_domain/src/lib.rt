@@ -1,0 +1,10 @@
+//! Pipes (POSIX.1, pipe(2), read(2) and write(2), narrowed): a pipe is a queue of at most 4,096 bytes, in a ring in its page.
+#![tactic(auto)]
+
+mod ends;
+mod piped;
+mod pipes;
+mod rings;
+
+pub use piped::Piped;
+pub use pipes::{put, take};
