@@ -5,3 +5,4 @@ mod PipeLaws
 mod SeenLaws
 mod TakeLaws
 mod PutLaws
+mod MadeLaws

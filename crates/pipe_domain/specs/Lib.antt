@@ -2,3 +2,4 @@
 pub mod Rings
 pub mod Ends
 pub mod Pipes
+pub mod Made

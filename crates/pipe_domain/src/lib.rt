@@ -2,9 +2,11 @@
 #![tactic(auto)]
 
 mod ends;
+mod made;
 mod piped;
 mod pipes;
 mod rings;
 
+pub use made::new_pipe;
 pub use piped::Piped;
 pub use pipes::{put, take};
