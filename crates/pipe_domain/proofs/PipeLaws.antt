@@ -1,7 +1,7 @@
 -- What the inode of a pipe has, in a machine in which all stands.
-use Rattle.std.proofs.Common.{◌≡◌, ℕ, ◌+◌, ◌-◌, ◌<◌, ◌≤◌, false, Some, None, length, arith, refl, sym, ap, subst, ◌∙◌, ⊎_elim}
+use Rattle.std.proofs.Common.{◌≡◌, ℕ, ◌+◌, ◌-◌, ◌<◌, ◌≤◌, false, Some, None, length, slice_set, arith, refl, sym, ap, subst, ◌∙◌, ⊎_elim}
 use Rattle.std.proofs.lemmas.Bool.{cases_lt, lt-ltb, le-ltb}
-use Rattle.std.proofs.lemmas.List.{get_or_past}
+use Rattle.std.proofs.lemmas.List.{get_or_past, get_or-set_same}
 use Rattle.kernel_tables.specs.declared.entry.Entry.{Entry}
 use Rattle.kernel_tables.specs.declared.entry.Entry.TheVariants.{Free, Taken, Fixed, Unspelled}
 use Rattle.kernel_tables.specs.declared.entry.PageOwner.{PageOwner}
@@ -10,16 +10,19 @@ use Rattle.kernel_tables.specs.declared.inode.Inode.{Inode}
 use Rattle.kernel_tables.specs.declared.inode.InodeKind.{InodeKind}
 use Rattle.kernel_tables.specs.declared.inode.InodeKind.TheVariants.{Pipe}
 use Rattle.kernel_tables.specs.declared.row.Row.{Row}
-use Rattle.kernel_tables.specs.Kernel.{Kernel, IsBankPage, first_page, bank_page, memory_page}
+use Rattle.kernel_tables.specs.declared.row.Row.TheVariants.{Used, Unspelled as UnspelledRow}
+use Rattle.kernel_tables.specs.Kernel.{Kernel, IsBankPage, first_page, inode_at, bank_page, memory_page}
 use Rattle.kernel_tables.specs.Rows.{entry_at}
 use Rattle.space_bank.specs.FreeList.{is_free}
-use Rattle.file_tables.specs.Rows.{IsInodeAt, IsInodeRow, IsOfKind, IsPipe}
+use Rattle.file_tables.specs.Rows.{InodesGood, IsInodeAt, IsInodeRow, IsOfKind, IsPipe}
 use Rattle.unix_model.specs.Tables.{at}
 use Rattle.kernel_forest.specs.Trees.{forest_of}
-use Rattle.kernel_machine.specs.Machine.{held, inodes_of, owner_in, page_owner_of}
+use Rattle.kernel_machine.specs.Counts.{opens}
+use Rattle.kernel_machine.specs.Machine.{machine_of, descriptions_of, held, inodes_of, owner_in, page_owner_of}
+use Rattle.kernel_machine.specs.View.{descriptions_in}
 use Rattle.kernel_machine.specs.Standing.{Standing, page_owners}
 use Rattle.kernel_machine.proofs.MemoryLaws.{page-of}
-use Rattle.pipe_domain.specs.Pipes.{HasRing, IsPipeAt, pipe_at, less_by, more_by}
+use Rattle.pipe_domain.specs.Pipes.{HasRing, IsPipeAt, PipeGood, pipe_at, row_inode, less_by, more_by}
 
 -- an entry of an owner is taken
 owned-used : (entry : Entry PageOwner) (owner : PageOwner) → owner_in entry ≡ Some owner → is_free entry ≡ false
@@ -106,3 +109,71 @@ more-right pipe inode count fits kind right = record {
   root_kind = right.root_kind;
   root_parent = right.root_parent;
 }
+
+-- a row that is there is in the table
+pub pipe-inside : (kernel : Kernel) (pipe : ℕ) → IsPipeAt kernel pipe → pipe < length kernel.inodes
+pipe-inside kernel pipe is = ⊎_elim
+    (λ (t : pipe < length kernel.inodes). t)
+    (λ (past : length kernel.inodes ≤ pipe). let wrong : Used (pipe_at kernel pipe) ≡ UnspelledRow = sym is.row ∙ get_or_past kernel.inodes pipe UnspelledRow past in cc)
+    (cases_lt pipe (length kernel.inodes))
+
+-- all that calls on a pipe ask, where all stands
+pub pipe-good : (kernel : Kernel) (pipe : ℕ) → Standing kernel → IsPipeAt kernel pipe → (pipe_at kernel pipe).opens ≡ opens (descriptions_in (machine_of kernel)) pipe → PipeGood kernel pipe
+pipe-good kernel pipe standing is counted = record {
+  bank = standing.bank;
+  inodes = standing.inodes;
+  descriptions = standing.descriptions;
+  is_pipe = is;
+  ring = pipe-ring kernel pipe standing is;
+  counted = counted;
+}
+
+-- another row for a pipe, with the same page and as many descriptions
+module _ (kernel : Kernel) (pipe : ℕ) (row : Inode) (good : PipeGood kernel pipe) (right : IsInodeAt pipe row) (kind : row.kind ≡ Pipe)
+    (root : row.root ≡ (pipe_at kernel pipe).root) (open_same : row.opens ≡ (pipe_at kernel pipe).opens) where
+  abbrev pub with-row : Kernel
+  with-row = record kernel { inodes = slice_set kernel.inodes pipe (Used row) }
+
+  there : inode_at with-row pipe ≡ Used row
+  there = get_or-set_same kernel.inodes pipe (Used row) UnspelledRow (pipe-inside kernel pipe good.is_pipe)
+
+  row-now : pipe_at with-row pipe ≡ row
+  row-now = ap row_inode there
+
+  its-ring : HasRing with-row pipe row
+  its-ring =
+      let of_kind = of-pipe row.kind row kind right.of_kind in
+      record {
+        same = sym row-now;
+        right = right;
+        kind = kind;
+        size = of_kind.length;
+        start = of_kind.start;
+        page = subst (λ (r : ℕ). IsBankPage kernel.size r) (sym root) good.ring.page;
+        used = subst (λ (r : ℕ). is_free (entry_at kernel.page_entries (r - first_page kernel.size)) ≡ false) (sym root) good.ring.used;
+        owned = subst (λ (r : ℕ). at (page_owners kernel) r ≡ Some PipePage) (sym root) good.ring.owned;
+        whole = subst (λ (r : ℕ). length (bank_page kernel r) ≡ 4096) (sym root) good.ring.whole;
+      }
+
+  pub good-row : InodesGood (slice_set kernel.inodes pipe (Used row)) → PipeGood with-row pipe
+  unfolding descriptions_in machine_of descriptions_of
+  good-row inodes = record {
+    bank = record { sized = good.bank.sized; words = good.bank.words; pages = good.bank.pages; nodes = good.bank.nodes };
+    inodes = inodes;
+    descriptions = good.descriptions;
+    is_pipe = record {
+      number = good.is_pipe.number;
+      row = there ∙ ap (λ (r : Inode). let used : Row Inode = Used r in used) (sym row-now);
+      kind = ap (λ (r : Inode). r.kind) row-now ∙ kind;
+    };
+    ring = subst (λ (r : Inode). HasRing with-row pipe r) (sym row-now) its-ring;
+    counted = ap (λ (r : Inode). r.opens) row-now ∙ open_same ∙ good.counted;
+  }
+
+-- the same, by the inode that was read
+pub less-right-by : (pipe : ℕ) (was inode : Inode) (count : ℕ) → inode ≡ was → was.length ≤ 4096 → was.kind ≡ Pipe → IsInodeAt pipe was → IsInodeAt pipe (less_by inode count)
+less-right-by pipe was inode count same few kind right = subst (λ (row : Inode). IsInodeAt pipe (less_by row count)) (sym same) (less-right pipe was count few kind right)
+
+pub more-right-by : (pipe : ℕ) (was inode : Inode) (count : ℕ) → inode ≡ was → inode.length + count ≤ 4096 → was.kind ≡ Pipe → IsInodeAt pipe was → IsInodeAt pipe (more_by inode count)
+more-right-by pipe was inode count same fits kind right =
+    subst (λ (row : Inode). IsInodeAt pipe (more_by row count)) (sym same) (more-right pipe was count (subst (λ (row : Inode). row.length + count ≤ 4096) same fits) kind right)

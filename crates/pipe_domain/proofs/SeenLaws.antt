@@ -17,7 +17,9 @@ use Rattle.forest.specs.Forest.{IsSpace}
 use Rattle.forest.specs.Walks.{map_of}
 use Rattle.user_copy.specs.SpaceMemory.{memory_by}
 use Rattle.kernel_machine.specs.Contents.{ring_in}
-use Rattle.kernel_machine.specs.Machine.{KernelMachine, machine_of}
+use Rattle.kernel_machine.specs.Machine.{KernelMachine, held, inodes_of, machine_of}
+use Rattle.kernel_tables.specs.declared.row.Row.{Row}
+use Rattle.pipe_domain.specs.Pipes.{PipeGood, pipe_at, queue}
 use Rattle.kernel_machine.specs.View.{view, memory_in, process_in, processes_in, inode_by, inode_in, inodes_in, descriptions_in, files_in}
 use Rattle.kernel_machine.specs.Processes.{HoldingsGood}
 use Rattle.kernel_machine.specs.Trees.{RootsGood}
@@ -86,3 +88,10 @@ pub inode-twice : (unix : Unix) (files : Files) (number : ℕ) (first second : m
     → with_files (with_files unix (with_inode files number first)) (with_inode (with_inode files number first) number second) ≡ with_files unix (with_inode files number second)
 inode-twice unix files number first second =
     ap (λ (inodes : ℕ → Option model.Inode). with_files unix (record files { inodes = inodes })) (with_at-twice files.inodes number (Some first) (Some second))
+
+-- a pipe in the flat state
+pub pipe-in-state : (kernel : Kernel) (pipe : ℕ) → PipeGood kernel pipe → at (inodes_in (machine_of kernel)) pipe ≡ Some (model.Pipe (queue kernel pipe))
+unfolding inodes_in at machine_of inodes_of
+pipe-in-state kernel pipe good =
+    ap (λ (row : Row Inode). option_map (inode_in (machine_of kernel)) (held row)) good.is_pipe.row
+    ∙ ap (λ (inode : model.Inode). Some inode) (pipe-seen kernel (pipe_at kernel pipe) good.is_pipe.kind good.ring.page)

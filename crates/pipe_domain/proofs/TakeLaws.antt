@@ -1,8 +1,7 @@
 -- What is left of a pipe from which bytes were taken.
-use Rattle.std.proofs.Common.{◌≡◌, ℕ, ◌+◌, ◌-◌, ◌%◌, ◌<◌, ◌≤◌, Bool, true, false, Some, List, [], ◌++◌, length, take, drop, min, slice_set, arith, refl, sym, ap, subst, ◌∙◌, ⊎_elim}
+use Rattle.std.proofs.Common.{◌≡◌, ℕ, ◌+◌, ◌-◌, ◌%◌, ◌<◌, ◌≤◌, Bool, true, false, Some, List, [], ◌++◌, length, take, drop, min, slice_set, arith, refl, sym, ap, subst, ◌∙◌}
 use Rattle.std.proofs.Math.Nat.{min-le_right}
-use Rattle.std.proofs.lemmas.Bool.{cases_lt}
-use Rattle.std.proofs.lemmas.List.{take_min, drop_min, length-take, nil_from_length, get_or_past, get_or-set_same}
+use Rattle.std.proofs.lemmas.List.{take_min, drop_min, length-take, nil_from_length, get_or-set_same}
 use Rattle.kernel_tables.specs.declared.entry.PageOwner.TheVariants.{Pipe as PipePage}
 use Rattle.kernel_tables.specs.declared.inode.Inode.{Inode}
 use Rattle.kernel_tables.specs.declared.inode.InodeKind.{InodeKind}
@@ -26,26 +25,22 @@ use Rattle.kernel_machine.proofs.StandingLaws.{standing_with_inode}
 use Rattle.std.specs.Prelude.{if◌then◌else◌}
 use Rattle.pipe_domain.specs.declared.piped.Piped.{Piped}
 use Rattle.pipe_domain.specs.declared.piped.Piped.TheVariants.{End, Wait}
-use Rattle.pipe_domain.specs.Pipes.{HasRing, IsPipeAt, MovesOut, Takes, pipe_at, queue, row_inode, less_by, with_taken, IsSeenWith}
-use Rattle.pipe_domain.proofs.PipeLaws.{pipe-ring}
+use Rattle.pipe_domain.specs.Pipes.{HasRing, IsPipeAt, MovesOut, PipeGood, Takes, pipe_at, queue, row_inode, less_by, with_taken, IsSeenWith}
+use Rattle.pipe_domain.proofs.PipeLaws.{good-row, less-right, pipe-inside}
 use Rattle.pipe_domain.proofs.RingLaws.{length-ring, ring-front, ring-taken}
 use Rattle.pipe_domain.proofs.SeenLaws.{pipe-seen}
-
--- a row that is there is in the table
-pub pipe-inside : (kernel : Kernel) (pipe : ℕ) → IsPipeAt kernel pipe → pipe < length kernel.inodes
-pipe-inside kernel pipe is = ⊎_elim
-    (λ (t : pipe < length kernel.inodes). t)
-    (λ (past : length kernel.inodes ≤ pipe). let wrong : Used (pipe_at kernel pipe) ≡ Unspelled = sym is.row ∙ get_or_past kernel.inodes pipe Unspelled past in cc)
-    (cases_lt pipe (length kernel.inodes))
 
 -- the root of a pipe is the page of a pipe, whatever else its row says
 pub root-right : (kernel : Kernel) (row : Inode) (kind : InodeKind) → kind ≡ Pipe → at (page_owners kernel) row.root ≡ Some PipePage → IsRootOf (forest_of kernel) (memory_page kernel) (page_owners kernel) row kind
 root-right kernel row kind pipe owned = subst (λ (k : InodeKind). IsRootOf (forest_of kernel) (memory_page kernel) (page_owners kernel) row k) (sym pipe) owned
 
-module _ (old new : Kernel) (pipe count : ℕ) (into : List ℕ) (standing : Standing old) (is : IsPipeAt old pipe)
+module _ (old new : Kernel) (pipe count : ℕ) (into : List ℕ) (good : PipeGood old pipe)
     (count_is : count ≡ min (length into) (pipe_at old pipe).length) (state : new ≡ with_taken old pipe count) where
   ring : HasRing old pipe (pipe_at old pipe)
-  ring = pipe-ring old pipe standing is
+  ring = good.ring
+
+  is : IsPipeAt old pipe
+  is = good.is_pipe
 
   held : length (queue old pipe) ≡ (pipe_at old pipe).length
   held = length-ring (bank_page old (pipe_at old pipe).root) (pipe_at old pipe).start (pipe_at old pipe).length ring.whole ring.size
@@ -92,44 +87,53 @@ module _ (old new : Kernel) (pipe count : ℕ) (into : List ℕ) (standing : Sta
     seen = seen-now;
   }
 
-  pub standing-taken : ExchangesRoots old new pipe (Used (less_by (pipe_at old pipe) count)) → InodesGood new.inodes → Standing new
-  standing-taken exchanges good =
-      standing_with_inode old new pipe (pipe_at old pipe) (less_by (pipe_at old pipe) count) (pipe-inside old pipe is) is.row state exchanges good refl refl
+  pub standing-taken : ExchangesRoots old new pipe (Used (less_by (pipe_at old pipe) count)) → InodesGood new.inodes → Standing old → Standing new
+  standing-taken exchanges inodes standing =
+      standing_with_inode old new pipe (pipe_at old pipe) (less_by (pipe_at old pipe) count) (pipe-inside old pipe is) is.row state exchanges inodes refl refl
       (root-right old (less_by (pipe_at old pipe) count) (pipe_at old pipe).kind is.kind ring.owned) standing
 
+  pub good-taken : InodesGood new.inodes → PipeGood new pipe
+  good-taken inodes =
+      subst (λ (kernel : Kernel). PipeGood kernel pipe) (sym state)
+      (good-row old pipe (less_by (pipe_at old pipe) count) good (less-right pipe (pipe_at old pipe) count ring.size is.kind ring.right) is.kind refl refl
+      (subst (λ (kernel : Kernel). InodesGood kernel.inodes) state inodes))
+
 -- the same, by the inode that was read
-module _ (old new : Kernel) (pipe count : ℕ) (into piece : List ℕ) (inode : Inode) (standing : Standing old) (is : IsPipeAt old pipe) (ring : HasRing old pipe inode)
+module _ (old new : Kernel) (pipe count : ℕ) (into piece : List ℕ) (inode : Inode) (good : PipeGood old pipe) (same : inode ≡ pipe_at old pipe)
     (count_is : count ≡ min (length into) inode.length) (state : new ≡ record old { inodes = slice_set old.inodes pipe (Used (less_by inode count)) }) where
   state-by : new ≡ with_taken old pipe count
-  state-by = state ∙ ap (λ (row : Inode). let k : Kernel = record old { inodes = slice_set old.inodes pipe (Used (less_by row count)) } in k) ring.same
+  state-by = state ∙ ap (λ (row : Inode). let k : Kernel = record old { inodes = slice_set old.inodes pipe (Used (less_by row count)) } in k) same
 
   count-by : count ≡ min (length into) (pipe_at old pipe).length
-  count-by = count_is ∙ ap (λ (row : Inode). min (length into) row.length) ring.same
+  count-by = count_is ∙ ap (λ (row : Inode). min (length into) row.length) same
 
   pub moves-out-by : 0 < length (queue old pipe) → (n : ℕ) → n ≡ count → piece ≡ ring_in (bank_page old inode.root) inode.start n → MovesOut old new pipe into (piece ++ drop count into) count
   moves-out-by some n n_is moved =
-      moves-out old new pipe count into standing is count-by state-by (piece ++ drop count into) some
+      moves-out old new pipe count into good count-by state-by (piece ++ drop count into) some
       (ap (λ (bytes : List ℕ). bytes ++ drop count into)
-      (moved ∙ ap (λ (m : ℕ). ring_in (bank_page old inode.root) inode.start m) n_is ∙ ap (λ (row : Inode). ring_in (bank_page old row.root) row.start count) ring.same))
+      (moved ∙ ap (λ (m : ℕ). ring_in (bank_page old inode.root) inode.start m) n_is ∙ ap (λ (row : Inode). ring_in (bank_page old row.root) row.start count) same))
 
-  pub standing-taken-by : ExchangesRoots old new pipe (Used (less_by inode count)) → InodesGood new.inodes → Standing new
-  standing-taken-by exchanges good =
-      standing-taken old new pipe count into standing is count-by state-by
-      (subst (λ (row : Inode). ExchangesRoots old new pipe (Used (less_by row count))) ring.same exchanges) good
+  pub standing-taken-by : ExchangesRoots old new pipe (Used (less_by inode count)) → InodesGood new.inodes → Standing old → Standing new
+  standing-taken-by exchanges inodes =
+      standing-taken old new pipe count into good count-by state-by
+      (subst (λ (row : Inode). ExchangesRoots old new pipe (Used (less_by row count))) same exchanges) inodes
+
+  pub good-taken-by : InodesGood new.inodes → PipeGood new pipe
+  good-taken-by inodes = good-taken old new pipe count into good count-by state-by inodes
 
 -- how many bytes a pipe holds
-pub queue-length : (kernel : Kernel) (pipe : ℕ) (inode : Inode) → HasRing kernel pipe inode → length (queue kernel pipe) ≡ inode.length
-queue-length kernel pipe inode ring =
-    ap (λ (row : Inode). length (ring_in (bank_page kernel row.root) row.start row.length)) (sym ring.same)
-    ∙ length-ring (bank_page kernel inode.root) inode.start inode.length ring.whole ring.size
+pub queue-length : (kernel : Kernel) (pipe : ℕ) (inode : Inode) → PipeGood kernel pipe → inode ≡ pipe_at kernel pipe → length (queue kernel pipe) ≡ inode.length
+queue-length kernel pipe inode good same =
+    length-ring (bank_page kernel (pipe_at kernel pipe).root) (pipe_at kernel pipe).start (pipe_at kernel pipe).length good.ring.whole good.ring.size
+    ∙ ap (λ (row : Inode). row.length) (sym same)
 
 -- what is found where a pipe is empty
-pub finds-none : (kernel : Kernel) (pipe : ℕ) (into : List ℕ) (inode : Inode) (writer : Bool) (answer : Piped) → HasRing kernel pipe inode → inode.length ≡ 0
+pub finds-none : (kernel : Kernel) (pipe : ℕ) (into : List ℕ) (inode : Inode) (writer : Bool) (answer : Piped) → PipeGood kernel pipe → inode ≡ pipe_at kernel pipe → inode.length ≡ 0
     → writer ≡ has_writer (files_in (machine_of kernel)) pipe → answer ≡ (if writer then Wait else End) → Takes kernel kernel pipe into into answer
-finds-none kernel pipe into inode writer answer ring empty writes told =
+finds-none kernel pipe into inode writer answer good same empty writes told =
     subst (λ (answer : Piped). Takes kernel kernel pipe into into answer) (sym told) (by_writer writer writes) where
       none : queue kernel pipe ≡ []
-      none = nil_from_length (queue kernel pipe) (queue-length kernel pipe inode ring ∙ empty)
+      none = nil_from_length (queue kernel pipe) (queue-length kernel pipe inode good same ∙ empty)
 
       by_writer : (writer : Bool) → writer ≡ has_writer (files_in (machine_of kernel)) pipe → Takes kernel kernel pipe into into (if writer then Wait else End)
       by_writer true has = record { none = none; writes = sym has; same_into = refl; same = refl }

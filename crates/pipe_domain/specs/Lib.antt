@@ -3,3 +3,4 @@ pub mod Rings
 pub mod Ends
 pub mod Pipes
 pub mod Made
+pub mod Laws

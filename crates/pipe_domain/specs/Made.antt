@@ -1,15 +1,12 @@
 -- A pipe that is made: its inode, its page, and the page's promise.
-use Rattle.std.specs.Prelude.{◌≡◌, ℕ, ◌+◌, ◌-◌, ◌<◌, ◌≤◌, true, Some, None, [], slice_set, slice_index_or}
-use Rattle.kn_base.specs.Memory.{zero_page}
-use Rattle.kernel_tables.specs.declared.entry.Entry.TheVariants.{Taken}
+use Rattle.std.specs.Prelude.{◌≡◌, ℕ, ◌+◌, ◌<◌, ◌≤◌, Some, None, [], slice_set}
 use Rattle.kernel_tables.specs.declared.entry.PageOwner.TheVariants.{Pipe as PipePage}
 use Rattle.kernel_tables.specs.declared.inode.Inode.{Inode}
 use Rattle.kernel_tables.specs.declared.inode.InodeKind.TheVariants.{Pipe}
 use Rattle.kernel_tables.specs.declared.row.Row.TheVariants.{Used}
-use Rattle.kernel_tables.specs.Kernel.{Kernel, first_page, inode_at}
+use Rattle.kernel_tables.specs.Kernel.{Kernel}
 use Rattle.file_tables.specs.Numbers.{fresh_inode, least_free_inode}
-use Rattle.file_tables.specs.Roots.{named_by, ExchangesRoots}
-use Rattle.kernel_forest.specs.Trees.{TreesGood}
+use Rattle.file_tables.specs.Roots.{ExchangesRoots}
 use Rattle.space_bank.specs.Bank.{TakesPage}
 use Rattle.space_bank.specs.Shares.{PutsPageInHand}
 use Rattle.unix_model.specs.declared.calls.Errno.{Errno}

@@ -8,7 +8,8 @@ use Rattle.kernel_tables.specs.Kernel.{Kernel, IsBankPage, first_page, inode_at,
 use Rattle.kernel_tables.specs.Rows.{entry_at}
 use Rattle.kernel_tables.specs.declared.entry.PageOwner.TheVariants.{Pipe as PipePage}
 use Rattle.space_bank.specs.FreeList.{is_free}
-use Rattle.file_tables.specs.Rows.{IsInodeAt}
+use Rattle.space_bank.specs.Bank.{BankGood}
+use Rattle.file_tables.specs.Rows.{IsInodeAt, InodesGood, DescriptionsGood}
 use Rattle.file_tables.specs.Numbers.{fresh_inode}
 use Rattle.unix_model.specs.declared.calls.Errno.{Errno}
 use Rattle.unix_model.specs.declared.calls.Errno.TheVariants.{Epipe}
@@ -19,8 +20,9 @@ use Rattle.unix_model.specs.State.{with_files}
 use Rattle.unix_model.specs.Tables.{at}
 use Rattle.kernel_machine.specs.Contents.{ring_in}
 use Rattle.kernel_machine.specs.Machine.{machine_of}
-use Rattle.kernel_machine.specs.Standing.{page_owners}
-use Rattle.kernel_machine.specs.View.{view, files_in}
+use Rattle.kernel_machine.specs.Counts.{opens}
+use Rattle.kernel_machine.specs.Standing.{Standing, page_owners}
+use Rattle.kernel_machine.specs.View.{view, descriptions_in, files_in}
 use Rattle.pipe_domain.specs.declared.piped.Piped.{Piped}
 use Rattle.pipe_domain.specs.declared.piped.Piped.TheVariants.{Moved, End, Wait}
 use Rattle.pipe_domain.specs.Rings.{ring_size, ring_written}
@@ -52,6 +54,16 @@ pub record HasRing (kernel : Kernel) (pipe : ℕ) (inode : Inode) : Type 0 where
   pub used : is_free (entry_at kernel.page_entries (inode.root - first_page kernel.size)) ≡ false
   pub owned : at (page_owners kernel) inode.root ≡ Some PipePage
   pub whole : length (bank_page kernel inode.root) ≡ ring_size
+
+-- What a call on a pipe asks, and keeps: a good bank and good tables of files, of which this number is that of a pipe; it has its
+-- ring, and its inode says how many descriptions are open on it. All of it is so where all stands and counts agree.
+pub record PipeGood (kernel : Kernel) (pipe : ℕ) : Type 0 where
+  pub bank : BankGood kernel
+  pub inodes : InodesGood kernel.inodes
+  pub descriptions : DescriptionsGood kernel.descriptions
+  pub is_pipe : IsPipeAt kernel pipe
+  pub ring : HasRing kernel pipe (pipe_at kernel pipe)
+  pub counted : (pipe_at kernel pipe).opens ≡ opens (descriptions_in (machine_of kernel)) pipe
 
 -- the bytes in a pipe, the first that came first
 abbrev pub queue : Kernel → ℕ → List ℕ
@@ -117,7 +129,7 @@ pub record MovesIn (old new : Kernel) (pipe : ℕ) (from : List ℕ) (count : �
   pub number : count ≡ length from
   pub state : new ≡ with_put old pipe from
   pub all : queue new pipe ≡ queue old pipe ++ from
-  pub seen : IsSeenWith old new pipe (queue old pipe ++ from)
+  pub seen : Standing old → IsSeenWith old new pipe (queue old pipe ++ from)
 
 -- The pipe has a reader, and fewer bytes are free than are to be put. Nothing has changed.
 pub record FindsNoRoom (old new : Kernel) (pipe : ℕ) (from : List ℕ) : Type 0 where

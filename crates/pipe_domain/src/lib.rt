@@ -2,11 +2,13 @@
 #![tactic(auto)]
 
 mod ends;
+mod laws;
 mod made;
 mod piped;
 mod pipes;
 mod rings;
 
+pub use laws::{pipe_is_good, pipe_is_seen};
 pub use made::new_pipe;
 pub use piped::Piped;
 pub use pipes::{put, take};

@@ -9,7 +9,7 @@ ghost use Rattle.kernel_machine.specs.Machine.{machine_of};
 ghost use Rattle.kernel_machine.specs.Standing.{Standing};
 ghost use Rattle.kernel_machine.specs.View.{descriptions_in, files_in};
 ghost use Rattle.unix_model.specs.Files.{has_reader};
-ghost use Rattle.pipe_domain.specs.Pipes.{HasRing, IsPipeAt, MovesIn, MovesOut, Puts, Takes, pipe_at, queue};
+ghost use Rattle.pipe_domain.specs.Pipes.{MovesIn, MovesOut, PipeGood, Puts, Takes, pipe_at, queue};
 
 use super::ends::{End, is_open};
 use super::piped::Piped;
@@ -21,10 +21,10 @@ use unix_model::Errno;
 
 // The inode of a pipe.
 fn pipe_inode<T: Store>(store: &T, pipe: u32) -> Inode
-    requires standing { Standing (kernel_of (T.memory store.now)) }
-    requires pipe { IsPipeAt (kernel_of (T.memory store.now)) pipe }
+    requires { PipeGood (kernel_of (T.memory store.now)) pipe }
     ensures inode { result ≡ pipe_at (kernel_of (T.memory store.now)) pipe }
-    ensures ring { HasRing (kernel_of (T.memory store.now)) pipe result }
+    ensures size { result.length ≤ 4096 }
+    ensures counted { result.opens ≡ opens (descriptions_in (machine_of (kernel_of (T.memory store.now)))) pipe }
 {
     match inode_of(store, pipe) {
         Some(inode) => inode,
@@ -34,13 +34,13 @@ fn pipe_inode<T: Store>(store: &T, pipe: u32) -> Inode
 
 // Moves the first bytes of a pipe that isn't empty.
 fn move_out<T: Store>(store: &mut T, pipe: u32, inode: Inode, into: &mut [u8]) -> u32
-    requires standing { Standing (kernel_of (T.memory store.old)) }
-    requires pipe { IsPipeAt (kernel_of (T.memory store.old)) pipe }
-    requires ring { HasRing (kernel_of (T.memory store.old)) pipe inode }
+    requires good { PipeGood (kernel_of (T.memory store.old)) pipe }
+    requires inode { inode ≡ pipe_at (kernel_of (T.memory store.old)) pipe }
     requires some { 0 < length (queue (kernel_of (T.memory store.old)) pipe) }
     requires few { length into.old ≤ 4096 }
     ensures moved { MovesOut (kernel_of (T.memory store.old)) (kernel_of (T.memory store.new)) pipe into.old into.new result }
-    ensures standing { Standing (kernel_of (T.memory store.new)) }
+    ensures standing { Standing (kernel_of (T.memory store.old)) → Standing (kernel_of (T.memory store.new)) }
+    ensures good { PipeGood (kernel_of (T.memory store.new)) pipe }
     ensures blocks { ChangesBlocks (T.blocks store.old) (T.blocks store.new) (inode_block pipe ∷ []) }
     ensures keeps { T.keeps store.old store.new }
 {
@@ -76,13 +76,12 @@ fn when_empty(writer: bool) -> Piped
 /// holds. It is End exactly where the pipe is empty and no description is open for writing to it, and Wait exactly where it is empty
 /// and one is (POSIX.1 read(2) of a pipe, narrowed: who waits asks again).
 pub fn take<T: Store>(store: &mut T, pipe: u32, into: &mut [u8]) -> Piped
-    requires standing { Standing (kernel_of (T.memory store.old)) }
-    requires pipe { IsPipeAt (kernel_of (T.memory store.old)) pipe }
-    requires counted { let old = kernel_of (T.memory store.old) in (pipe_at old pipe).opens ≡ opens (descriptions_in (machine_of old)) pipe }
+    requires good { PipeGood (kernel_of (T.memory store.old)) pipe }
     requires some { 1 ≤ length into.old }
     requires few { length into.old ≤ 4096 }
     ensures taken { Takes (kernel_of (T.memory store.old)) (kernel_of (T.memory store.new)) pipe into.old into.new result }
-    ensures standing { Standing (kernel_of (T.memory store.new)) }
+    ensures standing { Standing (kernel_of (T.memory store.old)) → Standing (kernel_of (T.memory store.new)) }
+    ensures good { PipeGood (kernel_of (T.memory store.new)) pipe }
     ensures blocks { ChangesBlocks (T.blocks store.old) (T.blocks store.new) (inode_block pipe ∷ []) }
     ensures keeps { T.keeps store.old store.new }
 {
@@ -96,13 +95,13 @@ pub fn take<T: Store>(store: &mut T, pipe: u32, into: &mut [u8]) -> Piped
 
 // Moves bytes that have room behind those of a pipe.
 fn move_in<T: Store>(store: &mut T, pipe: u32, inode: Inode, from: &[u8])
-    requires standing { Standing (kernel_of (T.memory store.old)) }
-    requires pipe { IsPipeAt (kernel_of (T.memory store.old)) pipe }
-    requires ring { HasRing (kernel_of (T.memory store.old)) pipe inode }
+    requires good { PipeGood (kernel_of (T.memory store.old)) pipe }
+    requires inode { inode ≡ pipe_at (kernel_of (T.memory store.old)) pipe }
     requires reads { has_reader (files_in (machine_of (kernel_of (T.memory store.old)))) pipe ≡ true }
     requires fits { inode.length + length from.now ≤ 4096 }
     ensures moved { MovesIn (kernel_of (T.memory store.old)) (kernel_of (T.memory store.new)) pipe from.now (length from.now) }
-    ensures standing { Standing (kernel_of (T.memory store.new)) }
+    ensures standing { Standing (kernel_of (T.memory store.old)) → Standing (kernel_of (T.memory store.new)) }
+    ensures good { PipeGood (kernel_of (T.memory store.new)) pipe }
     ensures blocks { ChangesBlocks (T.blocks store.old) (T.blocks store.new) (inode.root ∷ inode_block pipe ∷ []) }
     ensures keeps { T.keeps store.old store.new }
 {
@@ -119,13 +118,12 @@ fn move_in<T: Store>(store: &mut T, pipe: u32, inode: Inode, from: &[u8])
 ///
 /// `Epipe` exactly where no description is open for reading from the pipe. Nothing has changed then.
 pub fn put<T: Store>(store: &mut T, pipe: u32, from: &[u8]) -> Result<Piped, Errno>
-    requires standing { Standing (kernel_of (T.memory store.old)) }
-    requires pipe { IsPipeAt (kernel_of (T.memory store.old)) pipe }
-    requires counted { let old = kernel_of (T.memory store.old) in (pipe_at old pipe).opens ≡ opens (descriptions_in (machine_of old)) pipe }
+    requires good { PipeGood (kernel_of (T.memory store.old)) pipe }
     requires some { 1 ≤ length from.now }
     requires few { length from.now ≤ 4096 }
     ensures put { Puts (kernel_of (T.memory store.old)) (kernel_of (T.memory store.new)) pipe from.now result }
-    ensures standing { Standing (kernel_of (T.memory store.new)) }
+    ensures standing { Standing (kernel_of (T.memory store.old)) → Standing (kernel_of (T.memory store.new)) }
+    ensures good { PipeGood (kernel_of (T.memory store.new)) pipe }
     ensures blocks { let old = kernel_of (T.memory store.old) in ChangesBlocks (T.blocks store.old) (T.blocks store.new) ((pipe_at old pipe).root ∷ inode_block pipe ∷ []) }
     ensures keeps { T.keeps store.old store.new }
 {
