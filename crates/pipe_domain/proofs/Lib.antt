@@ -1,7 +1,7 @@
 pub mod RingLaws
 mod PageWrites
 mod EndLaws
-mod PipeLaws
+pub mod PipeLaws
 mod SeenLaws
 mod TakeLaws
 mod PutLaws

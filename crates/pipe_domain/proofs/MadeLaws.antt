@@ -1,18 +1,25 @@
 -- What a pipe that was made leaves.
-use Rattle.std.proofs.Common.{◌≡◌, ℕ, ◌+◌, ◌-◌, ◌<◌, ◌≤◌, Bool, Some, List, [], length, slice_index_or, slice_set, arith, refl, sym, ap, subst, ◌∙◌}
+use Rattle.std.proofs.Common.{◌≡◌, ℕ, ◌+◌, ◌-◌, ◌<◌, ◌≤◌, Bool, true, false, ⊎_elim, Some, List, [], length, slice_index_or, slice_set, arith, refl, sym, ap, subst, ◌∙◌}
 use Rattle.std.proofs.Math.Path.{fun_ext}
-use Rattle.std.proofs.lemmas.Bool.{ne_eqb}
-use Rattle.std.proofs.lemmas.List.{get_or-set_same}
+use Rattle.std.proofs.lemmas.Bool.{cases_lt, le-ltb, ne_eqb}
+use Rattle.std.proofs.lemmas.List.{get_or_past, get_or-set_same, length-replicate}
+use Rattle.kn_base.specs.Memory.{zero_page}
 use Rattle.std.specs.Prelude.{if◌then◌else◌}
 use Rattle.kn_base.specs.declared.key.Key.{Key}
 use Rattle.kn_base.specs.declared.key.Key.TheVariants.{Null}
 use Rattle.kernel_tables.specs.declared.entry.Entry.{Entry}
+use Rattle.kernel_tables.specs.declared.entry.Entry.TheVariants.{Taken, Unspelled as UnspelledEntry}
+use Rattle.kernel_tables.specs.Rows.{entry_at}
+use Rattle.space_bank.specs.FreeList.{is_free}
+use Rattle.unix_model.specs.Tables.{at}
+use Rattle.kernel_machine.specs.Standing.{page_owners}
+use Rattle.kernel_machine.specs.Machine.{owner_in, page_owner_of}
 use Rattle.kernel_tables.specs.declared.entry.PageOwner.{PageOwner}
 use Rattle.kernel_tables.specs.declared.entry.PageOwner.TheVariants.{Pipe as PipePage}
 use Rattle.kernel_tables.specs.declared.inode.Inode.{Inode}
 use Rattle.kernel_tables.specs.declared.row.Row.{Row}
 use Rattle.kernel_tables.specs.declared.row.Row.TheVariants.{Free, Used, Unspelled}
-use Rattle.kernel_tables.specs.Kernel.{Kernel, first_page, inode_at, bank_page}
+use Rattle.kernel_tables.specs.Kernel.{Kernel, IsBankPage, first_page, inode_at, bank_page}
 use Rattle.space_bank.specs.Bank.{BankGood, TakesPage}
 use Rattle.space_bank.specs.Laws.{and_outside}
 use Rattle.space_bank.specs.Shares.{Outside, PutsPageInHand}
@@ -32,7 +39,7 @@ use Rattle.unix_model.specs.Files as model
 use Rattle.unix_model.specs.Files.{with_inode}
 use Rattle.unix_model.specs.State.{Unix, with_files}
 use Rattle.pipe_domain.specs.Made.{MakesPipe, empty_pipe, with_promise}
-use Rattle.pipe_domain.specs.Pipes.{IsPipeAt, IsSeenWith, pipe_at, queue, row_inode}
+use Rattle.pipe_domain.specs.Pipes.{HasRing, IsPipeAt, IsSeenWith, pipe_at, queue, row_inode}
 
 -- the inode of an empty pipe may stand at any number from 2 on
 pub empty-right : (pipe page : ℕ) → 2 ≤ pipe → IsInodeAt pipe (empty_pipe page)
@@ -104,8 +111,54 @@ module _ (old two new : Kernel) (pipe page : ℕ) (row : Inode) (takes : TakesPa
   unfolding ring_in
   nothing-in = ap (λ (r : Inode). ring_in (bank_page new r.root) r.start r.length) row-now
 
-  pub makes-pipe : least_free_inode old ≡ Some pipe → pipe < 1024 → old.machine.promised + 1 ≤ old.size → PutsPageInHand (with_promise old) two page → ExchangesRoots two new pipe (Used row) → MakesPipe old new pipe
-  makes-pipe least below room in_hand exchanges = record {
+  n-inside : page - first_page old.size < length old.page_entries
+  n-inside = ⊎_elim
+      (λ (t : page - first_page old.size < length old.page_entries). t)
+      (λ (past : length old.page_entries ≤ page - first_page old.size).
+      let wrong : false ≡ true = sym (ap is_free (get_or_past old.page_entries (page - first_page old.size) UnspelledEntry past)) ∙ takes.was_free in cc)
+      (cases_lt (page - first_page old.size) (length old.page_entries))
+
+  abbrev pub final : Kernel
+  final = record two { inodes = slice_set two.inodes pipe (Used (empty_pipe page)) }
+
+  entry : entry_at two.page_entries (page - first_page old.size) ≡ Taken PipePage 1
+  entry = ap (λ (k : Kernel). entry_at k.page_entries (page - first_page old.size)) takes.state ∙ get_or-set_same old.page_entries (page - first_page old.size) (Taken PipePage 1) UnspelledEntry n-inside
+
+  size-same : two.size ≡ old.size
+  size-same = ap (λ (k : Kernel). k.size) takes.state
+
+  entry-by : entry_at two.page_entries (page - first_page two.size) ≡ Taken PipePage 1
+  entry-by = ap (λ (size : ℕ). entry_at two.page_entries (page - first_page size)) size-same ∙ entry
+
+  in-bank : IsBankPage two.size page
+  in-bank = subst (λ (size : ℕ). IsBankPage size page) (sym size-same) (record { low = takes.low; high = takes.high })
+
+  owned : at (page_owners two) page ≡ Some PipePage
+  unfolding page_owner_of at
+  owned = rw (le-ltb page (first_page two.size) in-bank.low) (ap owner_in entry-by)
+
+  ring-final : 2 ≤ pipe → HasRing final pipe (empty_pipe page)
+  unfolding zero_page
+  ring-final low = record {
+    same = sym (ap row_inode (get_or-set_same two.inodes pipe (Used (empty_pipe page)) Unspelled inside-two));
+    right = empty-right pipe page low;
+    kind = refl;
+    size = omega arith;
+    start = omega arith;
+    page = in-bank;
+    used = ap is_free entry-by;
+    owned = owned;
+    whole = ap (λ (size : ℕ). length (slice_index_or two.bank (page - first_page size) [])) size-same ∙ ap length takes.zero ∙ length-replicate {A = ℕ} 4096 0;
+  }
+
+  ring-made : 2 ≤ pipe → HasRing new pipe (pipe_at new pipe)
+  ring-made low = subst (λ (r : Inode). HasRing new pipe r) (sym row-now) (subst (λ (k : Kernel). HasRing k pipe (empty_pipe page)) (sym state) (ring-final low))
+
+  descriptions-same : new.descriptions ≡ old.descriptions
+  descriptions-same = ap (λ (k : Kernel). k.descriptions) set ∙ ap (λ (k : Kernel). k.descriptions) takes.state
+
+  pub makes-pipe : least_free_inode old ≡ Some pipe → pipe < 1024 → 2 ≤ pipe → old.machine.promised + 1 ≤ old.size → PutsPageInHand (with_promise old) two page → ExchangesRoots two new pipe (Used row) → MakesPipe old new pipe
+  makes-pipe least below low room in_hand exchanges = record {
     least = least;
     room = room;
     page = page;
@@ -115,6 +168,8 @@ module _ (old two new : Kernel) (pipe page : ℕ) (row : Inode) (takes : TakesPa
     state = state ∙ ap (λ (rows : List (Row Inode)). let k : Kernel = record two { inodes = slice_set rows pipe (Used (empty_pipe page)) } in k) inodes-same;
     roots = subst (λ (r : Inode). ExchangesRoots two new pipe (Used r)) row_is exchanges;
     is_pipe = is-pipe below;
+    ring = ring-made low;
+    descriptions = descriptions-same;
     empty = nothing-in;
     seen = seen-made;
   }

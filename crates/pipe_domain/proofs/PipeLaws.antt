@@ -13,8 +13,9 @@ use Rattle.kernel_tables.specs.declared.row.Row.{Row}
 use Rattle.kernel_tables.specs.declared.row.Row.TheVariants.{Used, Unspelled as UnspelledRow}
 use Rattle.kernel_tables.specs.Kernel.{Kernel, IsBankPage, first_page, inode_at, bank_page, memory_page}
 use Rattle.kernel_tables.specs.Rows.{entry_at}
+use Rattle.space_bank.specs.Bank.{BankGood}
 use Rattle.space_bank.specs.FreeList.{is_free}
-use Rattle.file_tables.specs.Rows.{InodesGood, IsInodeAt, IsInodeRow, IsOfKind, IsPipe}
+use Rattle.file_tables.specs.Rows.{DescriptionsGood, InodesGood, IsInodeAt, IsInodeRow, IsOfKind, IsPipe}
 use Rattle.unix_model.specs.Tables.{at}
 use Rattle.kernel_forest.specs.Trees.{forest_of}
 use Rattle.kernel_machine.specs.Counts.{opens}
@@ -128,14 +129,14 @@ pipe-good kernel pipe standing is counted = record {
   counted = counted;
 }
 
--- another row for a pipe, with the same page and as many descriptions
-module _ (kernel : Kernel) (pipe : ℕ) (row : Inode) (good : PipeGood kernel pipe) (right : IsInodeAt pipe row) (kind : row.kind ≡ Pipe)
-    (root : row.root ≡ (pipe_at kernel pipe).root) (open_same : row.opens ≡ (pipe_at kernel pipe).opens) where
+-- another row for a pipe, with the same page, which says how many descriptions are open on it
+module _ (kernel : Kernel) (pipe : ℕ) (row : Inode) (is : IsPipeAt kernel pipe) (ring : HasRing kernel pipe (pipe_at kernel pipe)) (right : IsInodeAt pipe row) (kind : row.kind ≡ Pipe)
+    (root : row.root ≡ (pipe_at kernel pipe).root) where
   abbrev pub with-row : Kernel
   with-row = record kernel { inodes = slice_set kernel.inodes pipe (Used row) }
 
   there : inode_at with-row pipe ≡ Used row
-  there = get_or-set_same kernel.inodes pipe (Used row) UnspelledRow (pipe-inside kernel pipe good.is_pipe)
+  there = get_or-set_same kernel.inodes pipe (Used row) UnspelledRow (pipe-inside kernel pipe is)
 
   row-now : pipe_at with-row pipe ≡ row
   row-now = ap row_inode there
@@ -149,25 +150,26 @@ module _ (kernel : Kernel) (pipe : ℕ) (row : Inode) (good : PipeGood kernel pi
         kind = kind;
         size = of_kind.length;
         start = of_kind.start;
-        page = subst (λ (r : ℕ). IsBankPage kernel.size r) (sym root) good.ring.page;
-        used = subst (λ (r : ℕ). is_free (entry_at kernel.page_entries (r - first_page kernel.size)) ≡ false) (sym root) good.ring.used;
-        owned = subst (λ (r : ℕ). at (page_owners kernel) r ≡ Some PipePage) (sym root) good.ring.owned;
-        whole = subst (λ (r : ℕ). length (bank_page kernel r) ≡ 4096) (sym root) good.ring.whole;
+        page = subst (λ (r : ℕ). IsBankPage kernel.size r) (sym root) ring.page;
+        used = subst (λ (r : ℕ). is_free (entry_at kernel.page_entries (r - first_page kernel.size)) ≡ false) (sym root) ring.used;
+        owned = subst (λ (r : ℕ). at (page_owners kernel) r ≡ Some PipePage) (sym root) ring.owned;
+        whole = subst (λ (r : ℕ). length (bank_page kernel r) ≡ 4096) (sym root) ring.whole;
       }
 
-  pub good-row : InodesGood (slice_set kernel.inodes pipe (Used row)) → PipeGood with-row pipe
+  pub good-row : BankGood kernel → DescriptionsGood kernel.descriptions → row.opens ≡ opens (descriptions_in (machine_of kernel)) pipe
+      → InodesGood (slice_set kernel.inodes pipe (Used row)) → PipeGood with-row pipe
   unfolding descriptions_in machine_of descriptions_of
-  good-row inodes = record {
-    bank = record { sized = good.bank.sized; words = good.bank.words; pages = good.bank.pages; nodes = good.bank.nodes };
+  good-row bank descriptions counted inodes = record {
+    bank = record { sized = bank.sized; words = bank.words; pages = bank.pages; nodes = bank.nodes };
     inodes = inodes;
-    descriptions = good.descriptions;
+    descriptions = descriptions;
     is_pipe = record {
-      number = good.is_pipe.number;
+      number = is.number;
       row = there ∙ ap (λ (r : Inode). let used : Row Inode = Used r in used) (sym row-now);
       kind = ap (λ (r : Inode). r.kind) row-now ∙ kind;
     };
     ring = subst (λ (r : Inode). HasRing with-row pipe r) (sym row-now) its-ring;
-    counted = ap (λ (r : Inode). r.opens) row-now ∙ open_same ∙ good.counted;
+    counted = ap (λ (r : Inode). r.opens) row-now ∙ counted;
   }
 
 -- the same, by the inode that was read

@@ -115,21 +115,14 @@ module _ (old new : Kernel) (pipe : ℕ) (from : List ℕ) (good : PipeGood old 
       (root-right mid (more_by (pipe_at old pipe) (length from)) (pipe_at old pipe).kind is.kind ring.owned)
       (standing_with_bytes old mid (pipe_at old pipe).root PipePage written ring.owned refl whole refl bank standing)
 
-  good-mid : BankGood mid → PipeGood mid pipe
-  unfolding descriptions_in machine_of descriptions_of
-  good-mid bank = record {
-    bank = bank;
-    inodes = good.inodes;
-    descriptions = good.descriptions;
-    is_pipe = is-mid;
-    ring = record { same = refl; right = ring.right; kind = ring.kind; size = ring.size; start = ring.start; page = ring.page; used = ring.used; owned = ring.owned; whole = ap length page-now ∙ whole };
-    counted = good.counted;
-  }
+  ring-mid : HasRing mid pipe (pipe_at mid pipe)
+  ring-mid = record { same = refl; right = ring.right; kind = ring.kind; size = ring.size; start = ring.start; page = ring.page; used = ring.used; owned = ring.owned; whole = ap length page-now ∙ whole }
 
   pub good-put : BankGood mid → new ≡ with_put old pipe from → InodesGood new.inodes → PipeGood new pipe
+  unfolding descriptions_in machine_of descriptions_of
   good-put bank state inodes =
       subst (λ (kernel : Kernel). PipeGood kernel pipe) (sym state)
-      (good-row mid pipe (more_by (pipe_at old pipe) (length from)) (good-mid bank) (more-right pipe (pipe_at old pipe) (length from) fits is.kind ring.right) is.kind refl refl
+      (good-row mid pipe (more_by (pipe_at old pipe) (length from)) is-mid ring-mid (more-right pipe (pipe_at old pipe) (length from) fits is.kind ring.right) is.kind refl bank good.descriptions good.counted
       (subst (λ (kernel : Kernel). InodesGood kernel.inodes) state inodes))
 
 -- the same, by the inode that was read

@@ -95,7 +95,7 @@ module _ (old new : Kernel) (pipe count : ℕ) (into : List ℕ) (good : PipeGoo
   pub good-taken : InodesGood new.inodes → PipeGood new pipe
   good-taken inodes =
       subst (λ (kernel : Kernel). PipeGood kernel pipe) (sym state)
-      (good-row old pipe (less_by (pipe_at old pipe) count) good (less-right pipe (pipe_at old pipe) count ring.size is.kind ring.right) is.kind refl refl
+      (good-row old pipe (less_by (pipe_at old pipe) count) is ring (less-right pipe (pipe_at old pipe) count ring.size is.kind ring.right) is.kind refl good.bank good.descriptions good.counted
       (subst (λ (kernel : Kernel). InodesGood kernel.inodes) state inodes))
 
 -- the same, by the inode that was read

@@ -11,7 +11,7 @@ use Rattle.space_bank.specs.Bank.{TakesPage}
 use Rattle.space_bank.specs.Shares.{PutsPageInHand}
 use Rattle.unix_model.specs.declared.calls.Errno.{Errno}
 use Rattle.unix_model.specs.declared.calls.Errno.TheVariants.{Enfile, Enomem}
-use Rattle.pipe_domain.specs.Pipes.{IsPipeAt, IsSeenWith, queue}
+use Rattle.pipe_domain.specs.Pipes.{HasRing, IsPipeAt, IsSeenWith, pipe_at, queue}
 
 -- the tables in which a page more is promised
 abbrev pub with_promise : Kernel → Kernel
@@ -33,6 +33,8 @@ pub record MakesPipe (old new : Kernel) (pipe : ℕ) : Type 0 where
   pub state : new ≡ record taken { inodes = slice_set old.inodes pipe (Used (empty_pipe page)) }
   pub roots : ExchangesRoots taken new pipe (Used (empty_pipe page))
   pub is_pipe : IsPipeAt new pipe
+  pub ring : HasRing new pipe (pipe_at new pipe)
+  pub descriptions : new.descriptions ≡ old.descriptions
   pub empty : queue new pipe ≡ []
   pub seen : IsSeenWith old new pipe []
 

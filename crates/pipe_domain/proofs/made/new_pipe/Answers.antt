@@ -30,7 +30,7 @@ returns-clause-made g c =
     makes-pipe old two (kernel_of (g.T.Store.memory c.set_inode.new.store)) c.in-Some.pipe c.in-Some-take_page.page.0 c.empty_inode.result
     (subst (λ (k : Kernel). TakesPage k two c.in-Some-take_page.page.0 PipePage) c.if-not-promise.ensures.after c.in-Some-take_page.ensures.taken) c.empty_inode.ensures
     (omega (arith, length-inodes (g.T.Store.memory c.args.store.now) c.requires.good.sized, c.in-Some.ensures.below)) c.set_inode.ensures.written
-    (sym c.in-Some.ensures.least) c.in-Some.ensures.below (c.if-not-promise.ensures.granted.0 refl)
+    (sym c.in-Some.ensures.least) c.in-Some.ensures.below (subst (IsInodeRow c.in-Some.pipe) c.in-Some.ensures.free (c.requires.inodes.right c.in-Some.pipe c.in-Some.ensures.below)) (c.if-not-promise.ensures.granted.0 refl)
     (subst (λ (k : Kernel). PutsPageInHand k two c.in-Some-take_page.page.0) c.if-not-promise.ensures.after c.in-Some-take_page.ensures.shares) c.set_inode.ensures.roots
 
 pub returns-clause-trees : goal.returns-clause-trees
