@@ -41,13 +41,12 @@ fn empty_inode(page: u32) -> Inode
 pub fn new_pipe<T: Store>(store: &mut T) -> Result<u32, Errno>
     requires good { BankGood (kernel_of (T.memory store.old)) }
     requires inodes { InodesGood (kernel_of (T.memory store.old)).inodes }
-    requires trees { TreesGood (kernel_of (T.memory store.old)) (named_by (kernel_of (T.memory store.old)).inodes) [] }
     requires promises { let old = kernel_of (T.memory store.old) in old.machine.pages_taken ≤ old.machine.promised }
     ensures made { IfOk result (λ pipe. MakesPipe (kernel_of (T.memory store.old)) (kernel_of (T.memory store.new)) pipe) }
     ensures refused { IfErr result (λ errno. MakesNoPipe (kernel_of (T.memory store.old)) (kernel_of (T.memory store.new)) errno) }
     ensures good { BankGood (kernel_of (T.memory store.new)) }
     ensures inodes { InodesGood (kernel_of (T.memory store.new)).inodes }
-    ensures trees { TreesGood (kernel_of (T.memory store.new)) (named_by (kernel_of (T.memory store.new)).inodes) [] }
+    ensures trees { let old = kernel_of (T.memory store.old) in let new = kernel_of (T.memory store.new) in TreesGood old (named_by old.inodes) [] → TreesGood new (named_by new.inodes) [] }
     ensures keeps { T.keeps store.old store.new }
 {
     let pipe = match least_free_inode(store) {

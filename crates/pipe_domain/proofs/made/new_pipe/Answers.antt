@@ -41,4 +41,4 @@ returns-clause-trees g c =
     (subst (λ (k : Kernel). TakesPage k two c.in-Some-take_page.page.0 PipePage) c.if-not-promise.ensures.after c.in-Some-take_page.ensures.taken) c.empty_inode.ensures
     (omega (arith, length-inodes (g.T.Store.memory c.args.store.now) c.requires.good.sized, c.in-Some.ensures.below)) c.set_inode.ensures.written
     (subst BankGood c.if-not-promise.ensures.after c.promise.ensures.good) c.in-Some.ensures.free
-    (subst (λ (k : Kernel). PutsPageInHand k two c.in-Some-take_page.page.0) c.if-not-promise.ensures.after c.in-Some-take_page.ensures.shares) c.set_inode.ensures.roots c.requires.trees
+    (subst (λ (k : Kernel). PutsPageInHand k two c.in-Some-take_page.page.0) c.if-not-promise.ensures.after c.in-Some-take_page.ensures.shares) c.set_inode.ensures.roots
