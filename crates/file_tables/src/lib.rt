@@ -10,7 +10,7 @@ mod inodes;
 mod laws;
 
 pub use descriptions::{description_of, free_description, new_description, set_description};
-pub use free_numbers::Full;
+pub use free_numbers::{Full, least_free_inode};
 pub use inodes::{free_inode, inode_of, new_inode, set_inode};
 pub use kernel_tables::{Description, Inode, InodeKind};
 pub use laws::{
