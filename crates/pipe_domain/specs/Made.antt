@@ -41,5 +41,5 @@ pub record MakesPipe (old new : Kernel) (pipe : ℕ) : Type 0 where
 -- Why none was made, and nothing has changed: no inode is free, or there is no room for its page.
 abbrev pub MakesNoPipe : Kernel → Kernel → Errno → Type 0
 MakesNoPipe old new Enfile = (least_free_inode old ≡ None) × (new ≡ old)
-MakesNoPipe old new Enomem = (page_is_free : ℕ) × (least_free_inode old ≡ Some page_is_free) × (old.size < old.machine.promised + 1) × (new ≡ old)
+MakesNoPipe old new Enomem = (number : ℕ) × (least_free_inode old ≡ Some number) × (old.size < old.machine.promised + 1) × (new ≡ old)
 MakesNoPipe old new _ = ⊥
