@@ -1,0 +1,5 @@
+pub mod FoundPlaces
+pub mod Searches
+pub mod Seen
+pub mod Names
+pub mod Entries

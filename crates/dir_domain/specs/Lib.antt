@@ -1,0 +1,4 @@
+-- in reading order
+pub mod Places
+pub mod Rows
+pub mod Listing

@@ -1,0 +1,11 @@
+//! Directories: the bytes of a directory's tree are its places, each the number of an inode and a name, or a hole.
+#![tactic(auto)]
+
+mod find;
+mod listing;
+mod place;
+mod row;
+mod search;
+
+pub use find::find_name;
+pub use listing::entries_from;
