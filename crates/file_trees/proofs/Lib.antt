@@ -1,2 +1,5 @@
 pub mod Contents
 pub mod Pages
+pub mod Leaving
+pub mod Room
+pub mod Pieces

@@ -3,5 +3,7 @@
 #![tactic(auto)]
 
 mod reading;
+mod writing;
 
 pub use reading::read_tree;
+pub use writing::put_piece;
