@@ -19,18 +19,21 @@ drop-here (x ∷ xs) (suc n) d below =
     let next : suc n + 1 ≡ suc (n + 1) = omega arith in
     drop-here xs n d (omega arith) ∙ ap (λ k. get_or xs n d ∷ drop k (x ∷ xs)) (sym next)
 
-pub get-place : (bytes : List ℕ) (n k : ℕ) → k < n → get_or (places_in bytes n) k None ≡ numbered_place bytes k
+pub get-place-any : (bytes : List ℕ) (n k : ℕ) (d : Option Entry) → k < n → get_or (places_in bytes n) k d ≡ numbered_place bytes k
 unfolding places_in
-get-place bytes zero k below = absurd (omega arith)
-get-place bytes (suc n) k below = ⊎_elim
-    (λ (t : k < n). get_or_append_left (places_in bytes n) (numbered_place bytes n ∷ []) None k (omega (arith, places-long bytes n)) ∙ get-place bytes n k t)
+get-place-any bytes zero k d below = absurd (omega arith)
+get-place-any bytes (suc n) k d below = ⊎_elim
+    (λ (t : k < n). get_or_append_left (places_in bytes n) (numbered_place bytes n ∷ []) d k (omega (arith, places-long bytes n)) ∙ get-place-any bytes n k d t)
     (λ (t : n ≤ k).
     let last : k ≡ n = omega arith in
     let none : k - n ≡ 0 = omega arith in
-    get_or-append_right (places_in bytes n) (numbered_place bytes n ∷ []) n k None (places-long bytes n) t
-    ∙ ap (λ i. get_or (numbered_place bytes n ∷ []) i None) none
+    get_or-append_right (places_in bytes n) (numbered_place bytes n ∷ []) n k d (places-long bytes n) t
+    ∙ ap (λ i. get_or (numbered_place bytes n ∷ []) i d) none
     ∙ ap (numbered_place bytes) (sym last))
     (cases_lt k n)
+
+pub get-place : (bytes : List ℕ) (n k : ℕ) → k < n → get_or (places_in bytes n) k None ≡ numbered_place bytes k
+get-place bytes n k below = get-place-any bytes n k None below
 
 -- ---- one place more
 

@@ -3,3 +3,5 @@ pub mod Searches
 pub mod Seen
 pub mod Names
 pub mod Entries
+pub mod TreeWrites
+pub mod Changing

@@ -1,5 +1,5 @@
 -- What is seen of a directory: its row, and the bytes of its tree.
-use Rattle.std.proofs.Common.{◌≡◌, ◌≢◌, ℕ, ◌-◌, ◌/◌, ◌<◌, ◌≤◌, true, false, Some, None, length, refl, ap, sym, subst, ◌∙◌, arith, ⊎_elim, ◌⊎◌}
+use Rattle.std.proofs.Common.{◌≡◌, ◌≢◌, ℕ, ◌+◌, ◌-◌, ◌/◌, ◌<◌, ◌≤◌, true, false, Some, None, length, refl, ap, sym, subst, ◌∙◌, arith, ⊎_elim, ◌⊎◌}
 use Rattle.std.specs.Prelude.{option_map}
 use Rattle.std.proofs.lemmas.Bool.{cases_eq, cases_lt, ne_eqb}
 use Rattle.std.proofs.lemmas.List.{get_or_past, length-replicate}
@@ -73,6 +73,7 @@ directory-row memory dir row standing is e =
       few = is_dir.length;
       whole = is_dir.whole_places;
       tree = λ some. (root some).0;
+      file = λ some. (root some).2;
     }
 
 -- the number of no inode isn't that of a directory
@@ -82,6 +83,10 @@ no-directory kernel dir is e =
     cc
 
 -- ---- the tree
+
+pub some-first : (size page : ℕ) → first_page size + page ≢ 0
+unfolding first_page
+some-first size page none = absurd (omega arith)
 
 -- page 0 stands for a page that isn't there
 pub no-tree : (kernel : Kernel) (root number : ℕ) → Standing kernel → root ≡ 0 → memory_page kernel 0 ≡ tree_page (tree_memory kernel root) number

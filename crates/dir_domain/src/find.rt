@@ -7,9 +7,8 @@ ghost use Rattle.unix_model.specs.Files.{inode_named, is_directory};
 ghost use Rattle.kernel_machine.specs.Standing.{Standing};
 ghost use Rattle.dir_domain.specs.Rows.{inode_seen, places_seen};
 
-use super::place::{inode_if_named, place_bytes};
-use super::row::{directory_row, tree_page};
-use super::search::first_named;
+use super::row::directory_row;
+use super::search::find_place;
 use kn_base::Store;
 
 /// The inode that a directory has under this name. None comes exactly where no place of it has the name.
@@ -19,11 +18,8 @@ pub fn find_name<T: Store>(store: &T, dir: u32, name: &[u8]) -> Option<u32>
     ensures { result ≡ inode_named (places_seen (kernel_of (T.memory store.now)) dir) name.now }
 {
     let row = directory_row(store, dir);
-    match first_named(store, &row, name) {
-        Some(number) => {
-            let page = tree_page(store, row.root, number / 128);
-            inode_if_named(&place_bytes(store, page, number % 128), name)
-        }
+    match find_place(store, &row, name) {
+        Some(named) => Some(named.inode),
         None => None,
     }
 }

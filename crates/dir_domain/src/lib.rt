@@ -4,8 +4,11 @@
 mod find;
 mod listing;
 mod place;
+mod rename;
 mod row;
 mod search;
+mod write;
 
 pub use find::find_name;
 pub use listing::entries_from;
+pub use rename::{remove_name, replace_name};

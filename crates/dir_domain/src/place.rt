@@ -34,8 +34,8 @@ fn name_length(bytes: &[u8; 32]) -> usize
     if bytes[4] > 27 { 27 } else { bytes[4] as usize }
 }
 
-// The inode of a place that isn't a hole.
-fn inode_of_place(bytes: &[u8; 32]) -> u32
+/// The inode of a place that isn't a hole.
+pub fn inode_of_place(bytes: &[u8; 32]) -> u32
     ensures { result ≡ from_le_bytes w32 (part_at bytes.now 0 4) }
 {
     u32::from_le_bytes([bytes[0], bytes[1], bytes[2], bytes[3]])

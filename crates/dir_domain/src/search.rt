@@ -1,15 +1,17 @@
 //! Places of a directory are looked at one by one.
 
-ghost use Rattle.std.specs.Prelude.{◌≡◌, ◌⊎◌, ℕ, ◌/◌, ◌<◌, ◌≤◌, MatchOption};
+ghost use Rattle.std.specs.Prelude.{◌≡◌, ◌⊎◌, ℕ, ◌/◌, ◌<◌, ◌≤◌, option_map};
 ghost use Rattle.kn_base.specs.Memory.{Memory};
 ghost use Rattle.kernel_tables.specs.Kernel.{Kernel, kernel_of, Sized, IsSized, IsBankPage, memory_page};
+ghost use Rattle.unix_model.specs.Files.{inode_named};
 ghost use Rattle.unix_model.specs.Limits.{place_bytes};
 ghost use Rattle.unix_model.specs.Tables.{least_below};
+ghost use Rattle.kernel_machine.specs.Contents.{places_in};
 ghost use Rattle.kernel_machine.specs.Standing.{Standing};
 ghost use Rattle.dir_domain.specs.Places.{has_name};
 ghost use Rattle.dir_domain.specs.Rows.{IsDirectoryRow, bytes_stored};
 
-use super::place::{inode_if_named, place_bytes};
+use super::place::{inode_if_named, inode_of_place, place_bytes};
 use super::row::tree_page;
 use kernel_tables::Inode;
 use kn_base::{PageId, Store};
@@ -56,4 +58,28 @@ pub fn first_named<T: Store>(store: &T, row: &Inode, name: &[u8]) -> Option<u32>
         }
     }
     None
+}
+
+/// A place of a directory that has a name, and the inode there.
+#[derive(Clone, Copy)]
+pub struct Named {
+    pub number: u32,
+    pub inode: u32,
+}
+
+/// The first place of a directory that has this name, and its inode.
+pub fn find_place<T: Store>(store: &T, row: &Inode, name: &[u8]) -> Option<Named>
+    requires standing { Standing (kernel_of (T.memory store.now)) }
+    requires row { (dir : ℕ) × IsDirectoryRow (kernel_of (T.memory store.now)) dir row.now }
+    ensures number { option_map (λ named. named.number) result ≡ least_below (has_name name.now (bytes_stored (kernel_of (T.memory store.now)) row.now)) (row.now.length / place_bytes) }
+    ensures inode { option_map (λ named. named.inode) result ≡ inode_named (places_in (bytes_stored (kernel_of (T.memory store.now)) row.now) (row.now.length / place_bytes)) name.now }
+{
+    match first_named(store, row, name) {
+        Some(number) => {
+            let page = tree_page(store, row.root, number / 128);
+            let inode = inode_of_place(&place_bytes(store, page, number % 128));
+            Some(Named { number, inode })
+        }
+        None => None,
+    }
 }
