@@ -33,7 +33,7 @@ use Rattle.file_trees.proofs.Pages.{tree_is_space}
 use Rattle.dir_domain.specs.Changes.{ChangesPlaces, with_tree}
 use Rattle.dir_domain.specs.Rows.{IsDirectoryRow, places_seen, inode_seen, bytes_stored}
 use Rattle.dir_domain.proofs.Seen.{places-are, tree-whole, some-first}
-use Rattle.dir_domain.proofs.TreeWrites.{IsFileMemory, leaves-memory, tree-memory, memory-tree, piece-memory, places-put}
+use Rattle.dir_domain.proofs.TreeWrites.{IsFileMemory, ends-by, leaves-memory, tree-memory, memory-tree, piece-memory, places-put}
 
 -- the pages of a bank are whole
 pub all-whole : (kernel : Kernel) → BankGood kernel → WholePages kernel → AllWhole kernel.bank
@@ -83,7 +83,7 @@ module _ (old new : Kernel) (dir number : ℕ) (row : Inode) (bytes : List ℕ) 
       memory-tree (forest_of new).keys (memory_page new) row.root row.length
       (subst (λ m. IsFileMemory m row.length) (sym puts.here ∙ tree_is_space new row.root some)
       (piece-memory before whole (32 * number) bytes in-page row.length within (omega (arith, long))
-      (subst (λ m. IsFileMemory m row.length) (sym (tree_is_space old row.root some)) (tree-memory (forest_of old).keys (memory_page old) row.root row.length (is.file some)))))
+      (ends-by before row.length (subst (λ m. IsFileMemory m row.length) (sym (tree_is_space old row.root some)) (tree-memory (forest_of old).keys (memory_page old) row.root row.length (is.file some))))))
 
   standing-now : Standing new
   standing-now = standing_with_tree old new row.root dir row puts.leaves is.there (has-tree row.kind is.kind) refl file-now bank all standing

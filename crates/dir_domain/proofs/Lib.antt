@@ -5,3 +5,6 @@ pub mod Names
 pub mod Entries
 pub mod TreeWrites
 pub mod Changing
+pub mod Growing
+pub mod Stretching
+pub mod Planting

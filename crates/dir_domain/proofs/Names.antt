@@ -1,7 +1,7 @@
 -- A name is found, or no place has it.
 use Rattle.std.proofs.Common.{◌≡◌, ◌≢◌, ℕ, ◌+◌, ◌*◌, ◌/◌, ◌-◌, ◌^◌, ◌<◌, ◌≤◌, Bool, true, false, Option, Some, None, List, ◌∷◌, ◌++◌, length, take, drop, set, refl, ap, ap₂, sym, ◌∙◌, arith}
 use Rattle.std.specs.Int.{from_le_bytes, to_le_bytes, w32}
-use Rattle.std.specs.Prelude.{◌%◌, slice_index, bytes_eq, replicate, is_some, Ok, Err}
+use Rattle.std.specs.Prelude.{◌%◌, slice_index, bytes_eq, replicate, is_none, is_some, Ok, Err}
 use Rattle.std.proofs.lemmas.Nat.{from_le_bytes-to_le_bytes_4}
 use Rattle.std.proofs.lemmas.Slice.Eq.{bytes_eq-Decides}
 use Rattle.std.proofs.lemmas.List.{take_all, take-append-le, length-drop}
@@ -149,3 +149,12 @@ pub place-changed : (kernel : Kernel) (dir number : ℕ) (row : Inode) (name : L
 place-changed kernel dir number row name bytes place is least e =
     let first = first-named (bytes_stored kernel row) name (row.length / 32) number least in
     ap₂ (λ places p. set places number p) (places-are kernel dir row is) e ∙ sym (first.set place) ∙ ap (λ places. with_place places name place) (sym (places-are kernel dir row is))
+
+-- the test of a hole
+pub hole-test : (bytes : List ℕ) → bytes_eq bytes (replicate 32 0) ≡ is_none (place_in bytes)
+unfolding place_in
+hole-test bytes = go (bytes_eq bytes (replicate 32 0)) refl
+  where
+    go : (hole : Bool) → bytes_eq bytes (replicate 32 0) ≡ hole → bytes_eq bytes (replicate 32 0) ≡ is_none (place_in bytes)
+    go true e = rw e refl
+    go false e = rw e refl

@@ -74,6 +74,9 @@ directory-row memory dir row standing is e =
       whole = is_dir.whole_places;
       tree = λ some. (root some).0;
       file = λ some. (root some).2;
+      below = below;
+      used = e;
+      right = right;
     }
 
 -- the number of no inode isn't that of a directory

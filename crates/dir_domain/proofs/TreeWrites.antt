@@ -1,5 +1,5 @@
 -- A piece is put into the tree of a directory: what that makes of the machine, and what of the places.
-use Rattle.std.proofs.Common.{◌≡◌, ◌≢◌, ℕ, ◌+◌, ◌-◌, ◌*◌, ◌/◌, ◌<◌, ◌≤◌, true, false, Option, Some, None, List, length, drop, get_or, set, refl, ap, ap₂, sym, ◌∙◌, arith, ⊎_elim, nat_lt}
+use Rattle.std.proofs.Common.{◌≡◌, ◌≢◌, ℕ, ◌+◌, ◌-◌, ◌*◌, ◌/◌, ◌<◌, ◌≤◌, true, false, Option, Some, None, List, [], length, drop, get_or, set, refl, ap, ap₂, sym, ◌∙◌, arith, ⊎_elim, nat_lt}
 use Rattle.std.specs.Prelude.{option_map, ◌%◌, ◌==◌}
 use Rattle.std.specs.List.{list_all}
 use Rattle.std.proofs.lemmas.Bool.{cases_eq, cases_lt, cases_Bool, ne_eqb, ltb-false}
@@ -13,7 +13,8 @@ use Rattle.kernel_tables.specs.declared.entry.PageOwner.{PageOwner}
 use Rattle.kernel_tables.specs.declared.entry.PageOwner.TheVariants.{Buffer, Pipe as PipePage}
 use Rattle.kernel_tables.specs.declared.machine.Machine.{Machine as Words}
 use Rattle.kernel_tables.specs.Kernel.{Kernel, first_page, memory_page}
-use Rattle.kernel_tables.specs.Rows.{entry_at}
+use Rattle.kernel_tables.specs.Rows.{KeepsRows, entry_at}
+use Rattle.forest.specs.Forest.{IsSpace}
 use Rattle.forest.specs.Walks.{Mapping, map_of}
 use Rattle.kernel_forest.specs.Apart.{KeepsApart}
 use Rattle.kernel_forest.specs.Trees.{forest_of, page_tree}
@@ -22,7 +23,7 @@ use Rattle.unix_model.specs.Memory.{Memory, Page}
 use Rattle.unix_model.specs.Numbers.{pages_of}
 use Rattle.unix_model.specs.Tables.{at}
 use Rattle.unix_model.proofs.TableLaws.{at-with_at, at-with_at-other}
-use Rattle.user_copy.specs.SpaceMemory.{memory_by, page_of}
+use Rattle.user_copy.specs.SpaceMemory.{memory_by, page_of, space_memory}
 use Rattle.kernel_machine.specs.Contents.{file_in, mapped_bytes, pages_in, place_in, places_in}
 use Rattle.kernel_machine.specs.Laws.{ChangesMemory}
 use Rattle.kernel_machine.specs.Machine.{machine_of, owner_in, page_owner_of}
@@ -67,20 +68,27 @@ same-words : (w : Words) (size quantum position next_pid : ℕ) → w.size ≡ s
     → w ≡ record w { size = size; quantum = quantum; position = position; next_pid = next_pid }
 same-words w size quantum position next_pid s q p n = rw (← s, ← q, ← p, ← n) refl
 
--- a call that leaves all spaces but one changes the memory of that one alone
-pub leaves-memory : (old new : Kernel) (space : ℕ) → LeavesSpaces old new space → ChangesMemory (machine_of old) (machine_of new) space
+-- calls that leave rows, files, whatever belongs to no tree and the memories of all spaces but one change the memory of that one alone
+pub changes-by : (old new : Kernel) (space : ℕ) → KeepsRows old new → new.inodes ≡ old.inodes → new.descriptions ≡ old.descriptions → KeepsApart old new → new.size ≡ old.size
+    → new.machine.size ≡ old.machine.size → new.machine.quantum ≡ old.machine.quantum → new.machine.position ≡ old.machine.position → new.machine.next_pid ≡ old.machine.next_pid
+    → ((other : ℕ) → other ≢ space → IsSpace (forest_of old) [] other → space_memory new other ≡ space_memory old other) → ChangesMemory (machine_of old) (machine_of new) space
 unfolding machine_of memory_in at
-leaves-memory old new space leaves =
-    let size : new.size ≡ old.size = ap (λ (k : Kernel). k.size) leaves.rest in
-    let words = same-words new.machine old.machine.size old.machine.quantum old.machine.position old.machine.next_pid
-    (ap (λ (k : Kernel). k.machine.size) leaves.rest) (ap (λ (k : Kernel). k.machine.quantum) leaves.rest) (ap (λ (k : Kernel). k.machine.position) leaves.rest) (ap (λ (k : Kernel). k.machine.next_pid) leaves.rest) in
+changes-by old new space rows inodes descriptions apart size s q p n memories =
     record {
-      rest = spaces_changed old new leaves.rows_now (ap (λ (k : Kernel). k.inodes) leaves.rest) (ap (λ (k : Kernel). k.descriptions) leaves.rest)
-          ∙ ap (λ (w : Words). record (machine_of old) { forest = forest_of new; page_bytes = memory_page new; page_owner = page_owners new; words = w }) words;
-      memories = λ other apart is. leaves.memories other is apart;
-      buffers = λ page owned. bytes-kept old new page Buffer size leaves.apart_now refl owned;
-      pipes = λ page owned. bytes-kept old new page PipePage size leaves.apart_now refl owned;
+      rest = spaces_changed old new rows inodes descriptions
+          ∙ ap (λ (w : Words). record (machine_of old) { forest = forest_of new; page_bytes = memory_page new; page_owner = page_owners new; words = w })
+          (same-words new.machine old.machine.size old.machine.quantum old.machine.position old.machine.next_pid s q p n);
+      memories = memories;
+      buffers = λ page owned. bytes-kept old new page Buffer size apart refl owned;
+      pipes = λ page owned. bytes-kept old new page PipePage size apart refl owned;
     }
+
+-- such is a call that leaves all spaces but one
+pub leaves-memory : (old new : Kernel) (space : ℕ) → LeavesSpaces old new space → ChangesMemory (machine_of old) (machine_of new) space
+leaves-memory old new space leaves =
+    changes-by old new space leaves.rows_now (ap (λ (k : Kernel). k.inodes) leaves.rest) (ap (λ (k : Kernel). k.descriptions) leaves.rest) leaves.apart_now (ap (λ (k : Kernel). k.size) leaves.rest)
+    (ap (λ (k : Kernel). k.machine.size) leaves.rest) (ap (λ (k : Kernel). k.machine.quantum) leaves.rest) (ap (λ (k : Kernel). k.machine.position) leaves.rest) (ap (λ (k : Kernel). k.machine.next_pid) leaves.rest)
+    (λ other apart is. leaves.memories other is apart)
 
 -- ---- the tree of a file, by its memory
 
@@ -90,6 +98,15 @@ pub record IsFileMemory (memory : Memory) (size : ℕ) : Type 0 where
   pub within : (number : ℕ) (page : Page) → at memory number ≡ Some page → number < pages_of size
   pub writable : (number : ℕ) (page : Page) → at memory number ≡ Some page → page.writable ≡ true
   pub zeros : ends_in_zeros size (pages_in memory (pages_of size)) ≡ true
+
+-- the same of a memory that may have no page
+pub record EndsBy (memory : Memory) (size : ℕ) : Type 0 where
+  pub within : (number : ℕ) (page : Page) → at memory number ≡ Some page → number < pages_of size
+  pub writable : (number : ℕ) (page : Page) → at memory number ≡ Some page → page.writable ≡ true
+  pub zeros : ends_in_zeros size (pages_in memory (pages_of size)) ≡ true
+
+pub ends-by : (memory : Memory) (size : ℕ) → IsFileMemory memory size → EndsBy memory size
+ends-by memory size is = record { within = is.within; writable = is.writable; zeros = is.zeros }
 
 page-there : (bytes : ℕ → List ℕ) (found : Option Mapping) (page : Page) → option_map (page_of bytes) found ≡ Some page → (mapping : Mapping) × (found ≡ Some mapping) × (mapping.writable ≡ page.writable)
 page-there bytes None page e = cc
@@ -165,7 +182,7 @@ module _ (memory : Memory) (whole : WholeTree memory) (place : ℕ) (bytes : Lis
       sym (ap (λ (p : Page). p.writable) same)
 
   -- a file of the same length has the piece
-  pub piece-memory : (size : ℕ) → place + length bytes ≤ size → 1 ≤ length bytes → IsFileMemory memory size → IsFileMemory (with_piece memory place bytes) size
+  pub piece-memory : (size : ℕ) → place + length bytes ≤ size → 1 ≤ length bytes → EndsBy memory size → IsFileMemory (with_piece memory place bytes) size
   unfolding ends_in_zeros
   piece-memory size within some was = record {
     some_page = (place / 4096, _, at-with_at memory (place / 4096) _);

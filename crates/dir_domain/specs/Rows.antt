@@ -1,9 +1,11 @@
 -- The row of a directory.
-use Rattle.std.specs.Prelude.{◌≡◌, ◌≢◌, ◌≤◌, ℕ, ◌%◌, Some, List, Option}
+use Rattle.std.specs.Prelude.{◌≡◌, ◌≢◌, ◌<◌, ◌≤◌, ℕ, ◌%◌, Some, List, Option}
 use Rattle.kernel_tables.specs.declared.inode.Inode.{Inode}
 use Rattle.kernel_tables.specs.declared.inode.InodeKind.TheVariants.{Dir}
-use Rattle.kernel_tables.specs.Kernel.{Kernel, memory_page}
+use Rattle.kernel_tables.specs.Kernel.{Kernel, memory_page, inode_at, inode_count}
+use Rattle.kernel_tables.specs.declared.row.Row.TheVariants.{Used}
 use Rattle.kernel_forest.specs.Trees.{forest_of}
+use Rattle.file_tables.specs.Rows.{IsInodeAt}
 use Rattle.unix_model.specs.Files as model
 use Rattle.unix_model.specs.Files.{Entry, places_of}
 use Rattle.unix_model.specs.Tables.{at}
@@ -33,3 +35,6 @@ pub record IsDirectoryRow (kernel : Kernel) (dir : ℕ) (row : Inode) : Type 0 w
   pub whole : row.length % 32 ≡ 0
   pub tree : IsTree kernel row.root
   pub file : row.root ≢ 0 → IsFileTree (forest_of kernel).keys (memory_page kernel) row.root row.length
+  pub below : dir < inode_count
+  pub used : inode_at kernel dir ≡ Used row
+  pub right : IsInodeAt dir row

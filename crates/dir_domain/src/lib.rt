@@ -1,6 +1,7 @@
 //! Directories: the bytes of a directory's tree are its places, each the number of an inode and a name, or a hole.
 #![tactic(auto)]
 
+mod add;
 mod find;
 mod listing;
 mod place;

@@ -8,6 +8,7 @@ ghost use Rattle.unix_model.specs.Limits.{place_bytes};
 ghost use Rattle.unix_model.specs.Tables.{least_below};
 ghost use Rattle.kernel_machine.specs.Contents.{places_in};
 ghost use Rattle.kernel_machine.specs.Standing.{Standing};
+ghost use Rattle.dir_domain.specs.Places as places;
 ghost use Rattle.dir_domain.specs.Places.{has_name};
 ghost use Rattle.dir_domain.specs.Rows.{IsDirectoryRow, bytes_stored};
 
@@ -82,4 +83,48 @@ pub fn find_place<T: Store>(store: &T, row: &Inode, name: &[u8]) -> Option<Named
         }
         None => None,
     }
+}
+
+// Whether a place of a page is a hole.
+#[tactic(auto, unfolding(crate::specs::Places::is_hole))]
+fn is_hole<T: Store>(store: &T, page: PageId, number: u32) -> bool
+    requires sized { Sized (kernel_of (T.memory store.now)) }
+    requires page { (page.0 ≡ 0) ⊎ IsBankPage (kernel_of (T.memory store.now)).size page.0 }
+    requires number { number < 128 }
+    ensures { result ≡ places.is_hole (memory_page (kernel_of (T.memory store.now)) page.0) number }
+{
+    place_bytes(store, page, number) == [0; 32]
+}
+
+// The first of so many places of a page that is a hole.
+#[tactic(auto, using(unix_model::proofs::TableLaws::steps))]
+fn first_hole_in<T: Store>(store: &T, page: PageId, count: u32) -> Option<u32>
+    requires sized { Sized (kernel_of (T.memory store.now)) }
+    requires page { (page.0 ≡ 0) ⊎ IsBankPage (kernel_of (T.memory store.now)).size page.0 }
+    requires count { count ≤ 128 }
+    ensures { result ≡ least_below (places.is_hole (memory_page (kernel_of (T.memory store.now)) page.0)) count }
+{
+    for number in 0..count {
+        if is_hole(store, page, number) {
+            return Some(number);
+        }
+    }
+    None
+}
+
+/// The first hole of a directory. Each page is found once.
+pub fn first_hole<T: Store>(store: &T, row: &Inode) -> Option<u32>
+    requires standing { Standing (kernel_of (T.memory store.now)) }
+    requires row { (dir : ℕ) × IsDirectoryRow (kernel_of (T.memory store.now)) dir row.now }
+    ensures { result ≡ least_below (places.is_hole (bytes_stored (kernel_of (T.memory store.now)) row.now)) (row.now.length / place_bytes) }
+{
+    let count = row.length / 32;
+    for page in 0..(count + 127) / 128 {
+        let here = (count - 128 * page).min(128);
+        match first_hole_in(store, tree_page(store, row.root, page), here) {
+            Some(number) => return Some(128 * page + number),
+            None => {}
+        }
+    }
+    None
 }

@@ -3,3 +3,4 @@ pub mod Pages
 pub mod Leaving
 pub mod Room
 pub mod Pieces
+pub mod Rooting

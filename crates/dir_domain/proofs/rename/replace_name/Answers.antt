@@ -1,4 +1,4 @@
-use Rattle.std.proofs.Common.{Some, ap, sym, subst, ◌∙◌}
+use Rattle.std.proofs.Common.{◌/◌, Some, arith, ap, sym, subst, ◌∙◌}
 use Rattle.kernel_tables.specs.Kernel.{kernel_of}
 use Rattle.unix_model.specs.Files.{inode_named}
 use Rattle.kernel_machine.specs.Contents.{place_in}
@@ -16,9 +16,11 @@ write_place-requires g c =
     let first = first-named (bytes_stored old row) c.args.name.now _ c.in-Some.named.number c.in-Some.ensures.number in
     record {
       standing = c.requires.standing;
-      row = (c.args.dir, c.directory_row-row.ensures, c.requires.room);
+      row = (c.args.dir, c.directory_row-row.ensures);
       tree = named-tree old c.args.dir c.in-Some.named.number row c.args.name.now c.requires.standing c.directory_row-row.ensures first.inside first.named;
       number = first.inside;
+      nodes = c.requires.room.nodes;
+      pages = λ own. c.requires.room.pages row (c.in-Some.named.number / 128) c.directory_row-row.ensures.there (let below = first.inside in omega arith) (λ real. own);
     }
 
 pub returns-in-Some-clause-told : goal.returns-in-Some-clause-told

@@ -1,4 +1,6 @@
-use Rattle.std.proofs.Common.{◌*◌, ◌/◌, arith}
+use Rattle.std.proofs.Common.{◌≡◌, subst, ◌*◌, ◌/◌, arith}
+use Rattle.forest.specs.Calls.{IsOwn}
+use Rattle.kernel_forest.specs.Trees.{forest_of}
 use Rattle.kernel_tables.specs.Kernel.{kernel_of}
 use Rattle.kernel_tables.proofs.Sizes.{length-memory_page}
 use Rattle.dir_domain.proofs.Changing.{all-whole, place-written}
@@ -6,8 +8,8 @@ use Rattle.dir_domain.proofs.write.write_place.Goals as goal
 
 pub put_piece-requires-clause-page_room : goal.put_piece-requires-clause-page_room
 put_piece-requires-clause-page_room g c = λ own.
-    let below = c.requires.number in
-    c.requires.row.2.pages c.args.row.now (32 * c.args.number / 4096) c.requires.row.1.there (omega arith) own
+    let same : c.args.number / 128 ≡ 32 * c.args.number / 4096 = omega arith in
+    c.requires.pages (λ found is. own found (subst (λ page. IsOwn (forest_of (kernel_of (g.T.Store.memory c.args.store.now))) c.args.row.now.root page found) same is))
 
 pub returns-clause-changed : goal.returns-clause-changed
 returns-clause-changed g c = λ dir is.
