@@ -1,5 +1,5 @@
 -- A directory gets a place more: behind its end all bytes are zero, so the place is a hole.
-use Rattle.std.proofs.Common.{◌≡◌, ◌≢◌, ℕ, zero, suc, ◌+◌, ◌-◌, ◌*◌, ◌/◌, ◌<◌, ◌≤◌, Bool, true, false, Option, Some, None, List, [], ◌∷◌, ◌++◌, length, drop, get_or, set, replicate, refl, ap, ap₂, sym, subst, ◌∙◌, arith, add-one, ⊎_elim}
+use Rattle.std.proofs.Common.{◌≡◌, ℕ, zero, suc, ◌+◌, ◌-◌, ◌*◌, ◌/◌, ◌<◌, ◌≤◌, Bool, true, false, Option, Some, None, List, [], ◌∷◌, ◌++◌, length, drop, get_or, set, replicate, refl, ap, ap₂, sym, ◌∙◌, arith, add-one, ⊎_elim}
 use Rattle.std.specs.Prelude.{◌%◌, ◌==◌, ◌&&◌}
 use Rattle.std.specs.List.{list_all}
 use Rattle.std.proofs.lemmas.Bool.{cases_lt, eqb-true, eq-eqb}
@@ -13,7 +13,7 @@ use Rattle.unix_model.specs.Numbers.{pages_of}
 use Rattle.unix_model.specs.Tables.{at}
 use Rattle.kernel_machine.specs.Contents.{file_in, mapped_bytes, pages_in, place_in, places_in}
 use Rattle.kernel_machine.specs.Trees.{ends_in_zeros}
-use Rattle.kernel_machine.proofs.PagesHeld.{pages-long, places-long}
+use Rattle.kernel_machine.proofs.PagesHeld.{pages-long}
 use Rattle.file_trees.specs.Trees.{tree_page}
 use Rattle.file_trees.proofs.Contents.{WholeTree, pages_get, part_get}
 use Rattle.file_trees.proofs.Pages.{zero_part}

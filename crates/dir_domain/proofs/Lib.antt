@@ -8,3 +8,6 @@ pub mod Changing
 pub mod Growing
 pub mod Stretching
 pub mod Planting
+pub mod FirstHoles
+pub mod Adding
+pub mod AddsNames

@@ -1,8 +1,7 @@
 -- A directory that had no tree gets one, in which a place is written.
-use Rattle.std.proofs.Common.{◌≡◌, ◌≢◌, ℕ, ◌+◌, ◌*◌, ◌/◌, ◌<◌, ◌≤◌, true, false, Option, Some, None, List, [], length, drop, get_or, set, refl, ap, ap₂, sym, subst, ◌∙◌, arith}
+use Rattle.std.proofs.Common.{◌≡◌, ◌≢◌, ℕ, ◌+◌, ◌*◌, ◌/◌, ◌<◌, ◌≤◌, Option, Some, None, List, [], length, drop, get_or, set, refl, ap, ap₂, sym, subst, ◌∙◌, arith}
 use Rattle.std.specs.Prelude.{◌%◌, slice_index_or}
 use Rattle.std.proofs.lemmas.List.{get_or-drop, length-drop, length-set}
-use Rattle.kn_base.specs.declared.key.Key.TheVariants.{Null}
 use Rattle.kn_base.specs.Memory.{zero_page}
 use Rattle.kernel_tables.specs.declared.inode.Inode.{Inode}
 use Rattle.kernel_tables.specs.declared.row.Row.TheVariants.{Used, Unspelled}
@@ -10,39 +9,34 @@ use Rattle.kernel_tables.specs.Kernel.{Kernel, memory_page}
 use Rattle.space_bank.specs.Bank.{BankGood}
 use Rattle.space_bank.specs.Laws.{and_outside}
 use Rattle.forest.specs.Calls.{AddsSpace}
-use Rattle.forest.specs.Forest.{IsSpace}
-use Rattle.forest.specs.Objects.{OfFile}
 use Rattle.forest.specs.Walks.{Mapping, map_of, space_key}
 use Rattle.kernel_forest.specs.Trees.{forest_of, TreesGood}
 use Rattle.file_tables.specs.Roots.{named_by, ExchangesRoots}
 use Rattle.file_tables.specs.Rows.{InodesGood}
 use Rattle.unix_model.specs.Files as model
 use Rattle.unix_model.specs.Files.{Entry, parent_of}
-use Rattle.unix_model.specs.Memory.{Memory, Page}
+use Rattle.unix_model.specs.Memory.{Memory}
 use Rattle.unix_model.specs.Numbers.{pages_of}
 use Rattle.unix_model.specs.State.{with_files}
 use Rattle.unix_model.specs.Files.{with_inode}
 use Rattle.unix_model.specs.Tables.{at, with_at}
-use Rattle.user_copy.specs.SpaceMemory.{space_memory}
 use Rattle.user_copy.proofs.Pages.{memory_none}
-use Rattle.seg_tree.specs.Promises.{Adds}
 use Rattle.kernel_machine.specs.Contents.{file_in, pages_in, place_in, places_in}
 use Rattle.kernel_machine.specs.Held.{AllWhole}
 use Rattle.kernel_machine.specs.Laws.{ChangesMemory}
 use Rattle.kernel_machine.specs.Machine.{KernelMachine, machine_of, inodes_of, held}
 use Rattle.kernel_machine.specs.Standing.{Standing}
 use Rattle.kernel_machine.specs.Trees.{IsFileTree, ends_in_zeros}
-use Rattle.kernel_machine.specs.View.{view, inode_in, files_in, memory_in, stored}
+use Rattle.kernel_machine.specs.View.{view, files_in, memory_in, stored}
 use Rattle.kernel_machine.proofs.MachineLaws.{inode_written}
 use Rattle.kernel_machine.proofs.PagesHeld.{pages-long, places-long}
-use Rattle.file_trees.specs.Pieces.{PutsInTree, with_piece}
 use Rattle.file_trees.specs.Trees.{tree_memory, tree_page}
 use Rattle.file_trees.proofs.Contents.{WholeTree, pages_get}
 use Rattle.file_trees.proofs.Pages.{tree_is_space, page_absent, page_none, zero_long}
 use Rattle.file_trees.proofs.Pieces.{space_some}
-use Rattle.file_trees.proofs.Rooting.{size-same, inodes-same, apart, memory-same, root_stands, root_seen}
+use Rattle.file_trees.proofs.Rooting.{memory-same, root_stands, root_seen}
 use Rattle.dir_domain.specs.Changes.{ChangesPlaces, Plants, with_tree, places_for}
-use Rattle.dir_domain.specs.Rows.{IsDirectoryRow, places_seen, inode_seen}
+use Rattle.dir_domain.specs.Rows.{IsDirectoryRow}
 use Rattle.dir_domain.proofs.Changing.{dir-in, has-tree, parent-seen}
 use Rattle.dir_domain.proofs.Growing.{blank-place, same-places, zero-all, zero-byte}
 use Rattle.dir_domain.proofs.Seen.{tree-whole}

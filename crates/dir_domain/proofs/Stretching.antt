@@ -1,12 +1,12 @@
 -- The row of a directory gets another length, and then a place of it is written: both together are one change of its places.
-use Rattle.std.proofs.Common.{◌≡◌, ◌≢◌, ℕ, zero, suc, ◌+◌, ◌*◌, ◌/◌, ◌<◌, ◌≤◌, Option, Some, None, List, [], length, set, refl, ap, ap₂, sym, subst, ◌∙◌, arith}
-use Rattle.std.specs.Prelude.{◌%◌, option_map}
+use Rattle.std.proofs.Common.{◌≡◌, ◌≢◌, ℕ, zero, suc, ◌*◌, ◌/◌, ◌<◌, ◌≤◌, Option, Some, List, [], length, set, refl, ap, sym, subst, ◌∙◌}
+use Rattle.std.specs.Prelude.{◌%◌}
 use Rattle.std.proofs.lemmas.List.{get_or-set_same}
 use Rattle.kernel_tables.specs.declared.inode.Inode.{Inode}
 use Rattle.kernel_tables.specs.declared.inode.InodeKind.{InodeKind}
 use Rattle.kernel_tables.specs.declared.inode.InodeKind.TheVariants.{File, Dir, Pipe, Console}
 use Rattle.kernel_tables.specs.declared.row.Row.TheVariants.{Used, Unspelled}
-use Rattle.kernel_tables.specs.Kernel.{Kernel, memory_page, inode_at}
+use Rattle.kernel_tables.specs.Kernel.{Kernel, memory_page}
 use Rattle.forest.specs.Forest.{IsSpace}
 use Rattle.forest.specs.Objects.{NodeObject, OfFile}
 use Rattle.kernel_forest.specs.Trees.{forest_of}
@@ -19,10 +19,10 @@ use Rattle.unix_model.specs.Tables.{at, with_at}
 use Rattle.unix_model.proofs.TableLaws.{at-with_at, with_at-twice}
 use Rattle.kernel_machine.specs.Contents.{file_in, places_in}
 use Rattle.kernel_machine.specs.Laws.{ChangesMemory}
-use Rattle.kernel_machine.specs.Machine.{KernelMachine, machine_of, inodes_of, held}
+use Rattle.kernel_machine.specs.Machine.{KernelMachine, machine_of, inodes_of}
 use Rattle.kernel_machine.specs.Standing.{Standing, page_owners}
 use Rattle.kernel_machine.specs.Trees.{IsFileTree, IsRootOf}
-use Rattle.kernel_machine.specs.View.{view, inode_in, inodes_in, files_in, file_memory, memory_in, stored}
+use Rattle.kernel_machine.specs.View.{view, inode_in, inodes_in, files_in, file_memory, memory_in}
 use Rattle.kernel_machine.proofs.MachineLaws.{inode_written}
 use Rattle.kernel_machine.proofs.MemoryLaws.{tree-of}
 use Rattle.kernel_machine.proofs.SetLaws.{inode_set}
@@ -30,7 +30,7 @@ use Rattle.kernel_machine.proofs.StandingLaws.{standing_with_inode}
 use Rattle.file_trees.specs.Trees.{tree_memory}
 use Rattle.file_trees.proofs.Pages.{tree_is_space}
 use Rattle.dir_domain.specs.Changes.{ChangesPlaces, with_tree, places_for}
-use Rattle.dir_domain.specs.Rows.{IsDirectoryRow, places_seen, inode_seen, bytes_stored}
+use Rattle.dir_domain.specs.Rows.{IsDirectoryRow, places_seen, inode_seen}
 use Rattle.dir_domain.proofs.Changing.{dir-in, has-tree, parent-seen}
 use Rattle.dir_domain.proofs.Growing.{longer-memory}
 use Rattle.dir_domain.proofs.Seen.{places-are, tree-whole}

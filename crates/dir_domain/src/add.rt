@@ -152,3 +152,56 @@ fn promise_place<T: Store>(store: &mut T, length: u32) -> bool
         true
     }
 }
+
+// Puts an entry in a new place at the end of a directory. ENOSPC comes exactly where it has 1,024 places, or where the new place
+// needs a page that can't be promised, and then nothing has changed.
+fn append<T: Store>(store: &mut T, dir: u32, row: Inode, bytes: &[u8; 32]) -> Result<(), Errno>
+    requires standing { Standing (kernel_of (T.memory store.old)) }
+    requires row { IsDirectoryRow (kernel_of (T.memory store.old)) dir row }
+    requires room { HasRoom (kernel_of (T.memory store.old)) dir }
+    requires taken { (kernel_of (T.memory store.old)).machine.pages_taken ≤ (kernel_of (T.memory store.old)).machine.promised }
+    ensures appended { Appends (kernel_of (T.memory store.old)) (kernel_of (T.memory store.new)) dir row (place_in bytes.now) result }
+    ensures most { (kernel_of (T.memory store.new)).machine.nodes_taken ≤ (kernel_of (T.memory store.old)).machine.nodes_taken + 13 }
+    ensures keeps { T.keeps store.old store.new }
+{
+    if row.length == 32768 {
+        return Err(Errno::Enospc);
+    }
+    if promise_place(store, row.length) {
+        put_place(store, dir, row, row.length + 32, row.length / 32, bytes);
+        Ok(())
+    } else {
+        Err(Errno::Enospc)
+    }
+}
+
+/// Gives an inode a name in a directory: in the first hole, else in a new place at the end, for which a page is promised where it
+/// needs one. EEXIST comes where the name is there, and then ENOSPC where all 1,024 places are used, or where no page is left to
+/// promise; nothing has changed then. How many entries name the inode is for the caller to count.
+pub fn add_name<T: Store>(store: &mut T, dir: u32, name: &[u8], inode: u32) -> Result<(), Errno>
+    requires standing { Standing (kernel_of (T.memory store.old)) }
+    requires directory { is_directory (inode_seen (kernel_of (T.memory store.old)) dir) ≡ true }
+    requires name { IsName name.now }
+    requires inode { is_named_kind (inode_seen (kernel_of (T.memory store.old)) inode) ≡ true }
+    requires room { HasRoom (kernel_of (T.memory store.old)) dir }
+    requires taken { (kernel_of (T.memory store.old)).machine.pages_taken ≤ (kernel_of (T.memory store.old)).machine.promised }
+    requires promises { (kernel_of (T.memory store.old)).machine.promised ≡ promised (view (machine_of (kernel_of (T.memory store.old)))) }
+    ensures added { AddsName (kernel_of (T.memory store.old)) (kernel_of (T.memory store.new)) dir name.now inode result }
+    ensures promises { (kernel_of (T.memory store.new)).machine.promised ≡ promised (view (machine_of (kernel_of (T.memory store.new)))) }
+    ensures most { (kernel_of (T.memory store.new)).machine.nodes_taken ≤ (kernel_of (T.memory store.old)).machine.nodes_taken + 13 }
+    ensures keeps { T.keeps store.old store.new }
+{
+    let row = directory_row(store, dir);
+    match first_named(store, &row, name) {
+        Some(_) => return Err(Errno::Eexist),
+        None => {}
+    }
+    let bytes = entry_bytes(inode, name);
+    match first_hole(store, &row) {
+        Some(number) => {
+            put_place(store, dir, row, row.length, number, &bytes);
+            Ok(())
+        }
+        None => append(store, dir, row, &bytes),
+    }
+}

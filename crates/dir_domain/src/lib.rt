@@ -10,6 +10,7 @@ mod row;
 mod search;
 mod write;
 
+pub use add::add_name;
 pub use find::find_name;
 pub use listing::entries_from;
 pub use rename::{remove_name, replace_name};

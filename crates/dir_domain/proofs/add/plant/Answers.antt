@@ -1,4 +1,4 @@
-use Rattle.std.proofs.Common.{◌≡◌, ◌+◌, ◌≤◌, ℕ, Option, Some, None, ap, sym, ◌∙◌, arith}
+use Rattle.std.proofs.Common.{◌≡◌, ℕ, Option, Some, None, ap, sym, ◌∙◌, arith}
 use Rattle.kernel_tables.specs.Kernel.{Kernel, kernel_of}
 use Rattle.space_bank.specs.Laws.{and_outside}
 use Rattle.file_tables.specs.Roots.{named_by}

@@ -1,5 +1,4 @@
-use Rattle.std.proofs.Common.{◌≡◌, ◌<◌, ◌/◌, ℕ, length, set, ap, sym, subst, ◌∙◌, arith}
-use Rattle.kernel_tables.specs.declared.inode.Inode.{Inode}
+use Rattle.std.proofs.Common.{◌<◌, ◌/◌, length, set, ap, sym, subst, ◌∙◌, arith}
 use Rattle.kernel_tables.specs.declared.row.Row.TheVariants.{Used}
 use Rattle.kernel_tables.specs.Kernel.{Kernel, kernel_of}
 use Rattle.kernel_tables.proofs.Sizes.{length-inodes}
