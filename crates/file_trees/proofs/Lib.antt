@@ -3,3 +3,5 @@ pub mod Pages
 pub mod Leaving
 pub mod Room
 pub mod Pieces
+pub mod Cuts
+pub mod FileMemory
