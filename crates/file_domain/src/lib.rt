@@ -1,0 +1,6 @@
+//! Files: lists of bytes by the number of their inode, read, written and cut as the definitions say.
+#![tactic(auto)]
+
+mod reading;
+
+pub use reading::read_at;
