@@ -1,1 +1,4 @@
 pub mod Seen
+pub mod Keeping
+pub mod Rows
+pub mod Growth

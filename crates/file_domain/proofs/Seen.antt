@@ -81,3 +81,16 @@ reads bytes old into place count few within all rest is =
 
 pub rest_same : (old : List ℕ) (count : ℕ) → count ≡ 0 → old ≡ [] ++ drop count old
 rest_same old count none = ap (λ n. drop n old) (sym none)
+
+-- a row of a file that is longer
+pub grown_row : (kernel : Kernel) (number size : ℕ) (inode : Inode) → Standing kernel → number < inode_count → IsFileAt kernel number inode → size ≤ 4194304
+    → IsInodeAt number (record inode { length = size })
+grown_row kernel number size inode standing below file most =
+    let right = right_row kernel number inode standing below file in
+    let row = file_row kernel number inode standing below file in
+    record {
+      of_kind = subst (λ k. IsOfKind k (record inode { length = size })) (sym file.kind) (record { length = most; no_parent = row.no_parent; no_start = row.no_start });
+      console = right.console;
+      root_kind = right.root_kind;
+      root_parent = right.root_parent;
+    }

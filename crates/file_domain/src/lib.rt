@@ -1,6 +1,7 @@
 //! Files: lists of bytes by the number of their inode, read, written and cut as the definitions say.
 #![tactic(auto)]
 
+mod growing;
 mod reading;
 
 pub use reading::read_at;

@@ -5,3 +5,4 @@ pub mod Room
 pub mod Pieces
 pub mod Cuts
 pub mod FileMemory
+pub mod FileTrees
