@@ -1,5 +1,6 @@
 -- What calls on files do, in the words of the definitions.
 use Rattle.std.specs.Prelude.{◌≡◌, ◌≢◌, ℕ, ◌+◌, ◌-◌, ◌++◌, Option, Some, Result, Ok, Err, true, false, List, length, take, drop, nat_lt}
+use Rattle.kn_base.specs.Rows.{overwritten as put_over}
 use Rattle.kernel_tables.specs.declared.inode.Inode.{Inode}
 use Rattle.kernel_tables.specs.declared.row.Row.TheVariants.{Used}
 use Rattle.kernel_tables.specs.Kernel.{Kernel, inode_at}
@@ -64,3 +65,15 @@ pub record Resizes (old new : Kernel) (number : ℕ) (inode now : Inode) : Type 
 pub record NoRoom (old new : Kernel) (number : ℕ) (inode : Inode) (size : ℕ) : Type 0 where
   pub none : has_room (with_file (view (machine_of old)) number (resized (stored (machine_of old) inode) size)) ≡ false
   pub state : new ≡ old
+
+-- Bytes were written over others of a file, within its length.
+pub record PutsAt (old new : Kernel) (number place : ℕ) (bytes : List ℕ) : Type 0 where
+  pub inode : Inode
+  pub was : IsFileAt old number inode
+  pub now : Inode
+  pub changes : ChangesFile old new number inode now
+  pub length_same : now.length ≡ inode.length
+  pub seen : view (machine_of new) ≡ with_file (view (machine_of old)) number (put_over (stored (machine_of old) inode) place bytes)
+  pub promised_same : new.machine.promised ≡ old.machine.promised
+  pub good : FilesGood new
+  pub file : IsFileAt new number now
