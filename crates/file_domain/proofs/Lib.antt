@@ -5,3 +5,4 @@ pub mod Growth
 pub mod SharedFiles
 pub mod Views
 pub mod Puts
+pub mod Kept

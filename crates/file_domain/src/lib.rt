@@ -3,5 +3,6 @@
 
 mod growing;
 mod reading;
+mod writing;
 
 pub use reading::read_at;
