@@ -67,3 +67,10 @@ promised_file unix number was now below there =
     let before : inode_pages (at unix.files.inodes number) ≡ pages_of (length was) = ap inode_pages there in
     let all = promised-inode unix (Some (File now)) unix.files.descriptions number below in
     omega arith
+
+pub same_promise : (unix : Unix) (number : ℕ) (was now : List ℕ) → number < 1024 → at unix.files.inodes number ≡ Some (File was) → length now ≡ length was
+    → promised (with_file unix number now) ≡ promised unix
+same_promise unix number was now below there same =
+    let change = promised_file unix number was now below there in
+    let pages : pages_of (length now) ≡ pages_of (length was) = ap pages_of same in
+    omega arith

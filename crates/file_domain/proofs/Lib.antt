@@ -6,3 +6,4 @@ pub mod SharedFiles
 pub mod Views
 pub mod Puts
 pub mod Kept
+pub mod First

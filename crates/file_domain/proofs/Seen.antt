@@ -94,3 +94,15 @@ grown_row kernel number size inode standing below file most =
       root_kind = right.root_kind;
       root_parent = right.root_parent;
     }
+
+-- a row of a file with another root
+pub rooted_row : (kernel : Kernel) (number root : ℕ) (inode : Inode) → Standing kernel → number < inode_count → IsFileAt kernel number inode → IsInodeAt number (record inode { root = root })
+rooted_row kernel number root inode standing below file =
+    let right = right_row kernel number inode standing below file in
+    let row = file_row kernel number inode standing below file in
+    record {
+      of_kind = subst (λ k. IsOfKind k (record inode { root = root })) (sym file.kind) (record { length = row.length; no_parent = row.no_parent; no_start = row.no_start });
+      console = right.console;
+      root_kind = right.root_kind;
+      root_parent = right.root_parent;
+    }
