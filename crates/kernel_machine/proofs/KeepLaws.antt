@@ -13,7 +13,7 @@ use Rattle.space_bank.specs.Bank.{BankGood}
 use Rattle.space_bank.specs.Fixed.{FixedNodes, IsRoomKey, IsSlotKey}
 use Rattle.space_bank.specs.FreeList.{is_free}
 use Rattle.space_bank.specs.Laws.{and_outside}
-use Rattle.space_bank.specs.Shares.{Outside}
+use Rattle.space_bank.specs.Shares.{Outside, Shares}
 use Rattle.space_bank.proofs.HandLaws.{handed-out}
 use Rattle.unix_model.specs.Tables.{at}
 use Rattle.forest.specs.Forest.{Forest, Held}
@@ -71,6 +71,30 @@ held-same forest before now same held =
 pub none-more : (outside : Outside) (key : Key) (object : Object) → raw_names object key ≡ false → bank_outside (and_outside outside key) object ≡ bank_outside outside object
 none-more outside key object e = let more = more_outside outside key object in let none : bit (raw_names object key) ≡ 0 = ap bit e in omega arith
 
+-- so what names an object from outside is the same, with such a key more
+pub outside-more : (kernel : Kernel) (outside : Outside) (key : Key) (object : Object) → (is_counted object ≡ true → raw_names object key ≡ false)
+    → outside_trees kernel (and_outside outside key) object ≡ outside_trees kernel outside object
+unfolding outside_by
+outside-more kernel outside key object none = ⊎_elim
+    (λ (t : is_counted object ≡ true). rw t (let same = none-more outside key object (none t) in omega arith))
+    (λ (t : is_counted object ≡ false). rw t refl)
+    (cases_Bool (is_counted object))
+
+-- the forest is the same, and so is what names its objects from outside
+pub trees-again : (old new : Kernel) (before now : Outside) → forest_of new ≡ forest_of old
+    → ((object : Object) → IsSome ((forest_of old).owner object) → outside_trees new now object ≡ outside_trees old before object)
+    → Shares new now [] → TreesGood old before [] → TreesGood new now []
+trees-again old new before now forest same shares trees =
+    record {
+      shares = shares;
+      held = rw forest (held-same (forest_of old) (outside_trees old before) (outside_trees new now) same trees.held);
+      in_hand = tt;
+      short = omega arith;
+      in_trees = trees-in (forest_of old) (forest_of new) forest trees.in_trees;
+      single = subst (λ (forest : Forest). (object : Object) → IsSome (forest.owner object) → outside_trees new now object ≤ 1) (sym forest)
+          (λ object some. let s = same object some in let one = trees.single object some in omega arith);
+    }
+
 free-none : (entry : Entry NodeOwner) → is_free entry ≡ true → tree_in node_tree entry ≡ None
 free-none (Free next) free = refl
 free-none (Taken owner count) free = cc
@@ -87,15 +111,16 @@ other-node forest (PageObject page) node some none = refl
 other-node forest (NodeObject other) node some none = ne_eqb node other (λ same.
     let no : true ≡ false = sym some ∙ ap (λ n. is_some (forest.owner (NodeObject n))) (sym same) ∙ ap is_some none in cc)
 
+-- the key of a domain names its root, as a Node key does, and the keeper's key names nothing that is counted
+pub as-domain : (object : Object) (node : ℕ) → raw_names object (DomainKey (record { 0 = node })) ≡ raw_names object (Node (record { 0 = node }))
+as-domain (PageObject page) node = refl
+as-domain (NodeObject other) node = refl
+
+pub no-keeper : (object : Object) (slot : ℕ) → is_counted object ≡ true → raw_names object (Start (record { 0 = 1 }) slot) ≡ false
+no-keeper (PageObject page) slot counted = refl
+no-keeper (NodeObject node) slot counted = ne_eqb 1 node (λ same. let no : false ≡ true = ap (λ n. is_counted (NodeObject n)) same ∙ counted in cc)
+
 module _ (old new : Kernel) (outside : Outside) (slot space root : ℕ) (good : BankGood old) (made : MakesDomain old new slot space root) where
-  as-domain : (object : Object) (node : ℕ) → raw_names object (DomainKey (record { 0 = node })) ≡ raw_names object (Node (record { 0 = node }))
-  as-domain (PageObject page) node = refl
-  as-domain (NodeObject other) node = refl
-
-  no-keeper : (object : Object) → is_counted object ≡ true → raw_names object (Start (record { 0 = 1 }) slot) ≡ false
-  no-keeper (PageObject page) counted = refl
-  no-keeper (NodeObject node) counted = ne_eqb 1 node (λ same. let no : false ≡ true = ap (λ n. is_counted (NodeObject n)) same ∙ counted in cc)
-
   abbrev all : Outside
   all = and_all outside (root_keys slot space made.regs made.descriptors ++ DomainKey (record { 0 = root }) ∷ [])
 
@@ -112,7 +137,7 @@ module _ (old new : Kernel) (outside : Outside) (slot space root : ℕ) (good : 
       let a = none-more outside (DomainKey (record { 0 = root })) object (as-domain object root ∙ other-node (forest_of old) object root some rooted) in
       let b = none-more o1 (Node (record { 0 = made.descriptors })) object (other-node (forest_of old) object made.descriptors some descriptors) in
       let c = none-more o2 (Node (record { 0 = made.regs })) object (other-node (forest_of old) object made.regs some regs) in
-      let d = none-more o3 (Start (record { 0 = 1 }) slot) object (no-keeper object counted) in
+      let d = none-more o3 (Start (record { 0 = 1 }) slot) object (no-keeper object slot counted) in
       more_outside o4 (space_key space) object ∙ ap (λ n. n + bit (raw_names object (space_key space))) (d ∙ c ∙ b ∙ a) ∙ sym (more_outside outside (space_key space) object)
 
   pub outside-same : (object : Object) → IsSome ((forest_of old).owner object) → outside_trees new outside object ≡ outside_trees old (and_outside outside (space_key space)) object
@@ -125,16 +150,7 @@ module _ (old new : Kernel) (outside : Outside) (slot space root : ℕ) (good : 
       (cases_Bool (is_counted object))
 
   trees-born : TreesGood old (and_outside outside (space_key space)) [] → TreesGood new outside []
-  trees-born trees =
-      record {
-        shares = made.shares outside [] ((handed-out old outside [] (space_key space)).1 trees.shares);
-        held = rw made.forest_now (held-same (forest_of old) (outside_trees old (and_outside outside (space_key space))) (outside_trees new outside) outside-same trees.held);
-        in_hand = tt;
-        short = omega arith;
-        in_trees = trees-in (forest_of old) (forest_of new) made.forest_now trees.in_trees;
-        single = subst (λ (forest : Forest). (object : Object) → IsSome (forest.owner object) → outside_trees new outside object ≤ 1) (sym made.forest_now)
-            (λ object some. let s = outside-same object some in let one = trees.single object some in omega arith);
-      }
+  trees-born trees = trees-again old new (and_outside outside (space_key space)) outside made.forest_now outside-same (made.shares outside [] ((handed-out old outside [] (space_key space)).1 trees.shares)) trees
 
 pub trees_with_birth : law.TreesWithBirth
 trees_with_birth old new outside slot space root good made trees = trees-born old new outside slot space root good made trees

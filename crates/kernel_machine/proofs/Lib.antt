@@ -20,5 +20,13 @@ pub mod HolesLeft
 pub mod KeepLaws
 pub mod StandingLaws
 pub mod SpacesStand
+pub mod OwnStands
+pub mod LooseLaws
+pub mod AddStands
+pub mod DropStands
+pub mod PageStands
+pub mod RootStands
+pub mod OwnerLaws
+pub mod BufferStands
 pub mod BirthStands
 pub mod EndStands

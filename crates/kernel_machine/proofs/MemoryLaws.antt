@@ -74,7 +74,7 @@ process-moved old new domain space is buffers =
 no-zero : (n : ℕ) → suc n ≢ 0
 no-zero n e = cc
 
-memory-kept : (old new : KernelMachine) (root : ℕ) → (root ≢ 0 → memory_in new (Some root) ≡ memory_in old (Some root)) → file_memory new root ≡ file_memory old root
+pub memory-kept : (old new : KernelMachine) (root : ℕ) → (root ≢ 0 → memory_in new (Some root) ≡ memory_in old (Some root)) → file_memory new root ≡ file_memory old root
 unfolding file_memory
 memory-kept old new zero same = refl
 memory-kept old new (suc root) same = same (no-zero root)

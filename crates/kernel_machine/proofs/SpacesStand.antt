@@ -2,30 +2,31 @@
 use Rattle.std.proofs.Math.Path.{fun_ext}
 use Rattle.std.proofs.Common.{◌↔◌, ◌≡◌, ◌≢◌, ◌-◌, ℕ, Option, Some, None, true, false, nat_lt, List, [], refl, sym, ap, ap₂, subst, ◌∙◌, ⊎_elim}
 use Rattle.std.specs.Prelude.{option_map}
+use Rattle.std.specs.Option.{IsSome}
 use Rattle.std.proofs.lemmas.Bool.{cases_eq, cases_Bool, ne_eqb}
 use Rattle.kernel_tables.specs.declared.entry.Entry.{Entry}
 use Rattle.kernel_tables.specs.declared.entry.Entry.TheVariants.{Free, Taken, Fixed, Unspelled}
 use Rattle.kernel_tables.specs.declared.entry.NodeOwner.{NodeOwner}
-use Rattle.kernel_tables.specs.declared.entry.NodeOwner.TheVariants.{Domain as DomainNode, Tree, FileTree}
+use Rattle.kernel_tables.specs.declared.entry.NodeOwner.TheVariants.{Domain as DomainNode, Tree as TreeNode, FileTree}
 use Rattle.kernel_tables.specs.declared.entry.PageOwner.{PageOwner}
 use Rattle.kernel_tables.specs.declared.entry.PageOwner.TheVariants.{Buffer, Pipe as PipePage}
 use Rattle.kernel_tables.specs.declared.inode.Inode.{Inode}
 use Rattle.kernel_tables.specs.declared.inode.InodeKind.{InodeKind}
 use Rattle.kernel_tables.specs.declared.inode.InodeKind.TheVariants.{File, Dir, Pipe, Console}
-use Rattle.kernel_tables.specs.Kernel.{Kernel, IsBankPage, first_page, memory_page}
+use Rattle.kernel_tables.specs.declared.row.Row.{Row}
+use Rattle.kernel_tables.specs.Kernel.{Kernel, IsBankPage, bank_page, first_page, memory_page}
 use Rattle.kernel_tables.specs.Rows.{domain_rows, entry_at, of_domain}
 use Rattle.space_bank.specs.Bank.{BankGood}
+use Rattle.space_bank.specs.Laws.{and_outside}
 use Rattle.space_bank.specs.Shares.{Outside}
-use Rattle.forest.specs.Forest.{Forest, IsSpace, NoPageOutside}
+use Rattle.forest.specs.Forest.{Forest, IsSpace, NoPageOutside, Sound}
 use Rattle.forest.specs.Objects.{PageObject, NodeObject, Owner, OfProcess, OfFile}
 use Rattle.forest.specs.Calls.{ChangesMap}
-use Rattle.forest.specs.Walks.{Mapping, map_of, key_at_page, page_way}
-use Rattle.forest.proofs.CopyLaws.{end_owned}
-use Rattle.forest.proofs.OwnLaws.{found_at, mapped_named}
+use Rattle.forest.specs.Walks.{Mapping, map_of}
 use Rattle.kernel_forest.proofs.Bridge.{page_inside}
 use Rattle.kernel_forest.proofs.Moves.{bank_page as its_page}
-use Rattle.seg_tree.specs.Promises.{Replaces}
 use Rattle.kernel_forest.specs.Apart.{KeepsApart}
+use Rattle.kernel_forest.specs.Releases.{KeepsUnreleased}
 use Rattle.kernel_forest.specs.Trees.{forest_of, outside_trees, page_tree, TreesGood}
 use Rattle.kernel_forest.proofs.ApartLaws.{page_stays_apart, node_stays_apart}
 use Rattle.kernel_forest.proofs.GivingNodes.{unreleased}
@@ -36,15 +37,19 @@ use Rattle.unix_model.specs.Memory.{Memory, Page}
 use Rattle.unix_model.specs.Numbers.{pages_of}
 use Rattle.unix_model.specs.Tables.{at}
 use Rattle.user_copy.specs.SpaceMemory.{memory_by, page_of, space_memory}
+use Rattle.user_copy.proofs.Pages.{found_owned}
 use Rattle.domain.specs.Domains.{Domain, domains, domain_at}
 use Rattle.domain.specs.Rules.{RowsGood}
 use Rattle.kernel_machine.specs.Contents.{pages_in}
-use Rattle.kernel_machine.specs.Held.{AllHeld, AllWhole, NodesHeld}
+use Rattle.kernel_machine.specs.Held.{AllWhole, NodesHeld}
 use Rattle.kernel_machine.specs.Machine.{inodes_of, owner_in, page_owner_of}
 use Rattle.kernel_machine.specs.Processes.{HoldingsGood}
+use Rattle.kernel_machine.proofs.LooseLaws.{not-loose, nothing_loose}
 use Rattle.kernel_machine.proofs.MemoryLaws.{made-same}
-use Rattle.kernel_machine.specs.Standing as law
-use Rattle.kernel_machine.specs.Standing.{LeavesSpaces, Standing, page_owners}
+use Rattle.kernel_machine.specs.Loose as law
+use Rattle.kernel_machine.specs.Loose.{Loose, Nothing, Space, Tree, Ring, loose_key, IsTaken, IsLoose, HeldBut, StandingBut, outside_with}
+use Rattle.kernel_machine.specs.Standing as standing_law
+use Rattle.kernel_machine.specs.Standing.{LeavesSpaces, page_owners}
 use Rattle.kernel_machine.specs.Trees.{HasTree, IsFileTree, IsRootOf, RootsGood, KeepersGood, ends_in_zeros}
 
 -- ---- what belongs to no tree
@@ -58,7 +63,7 @@ owner-taken Unspelled owner e = cc
 pub domain-taken : (entry : Entry NodeOwner) → of_domain entry ≡ true → (count : ℕ) × (entry ≡ Taken DomainNode count)
 domain-taken (Free next) mine = cc
 domain-taken (Taken DomainNode count) mine = (count, refl)
-domain-taken (Taken Tree count) mine = cc
+domain-taken (Taken TreeNode count) mine = cc
 domain-taken (Taken FileTree count) mine = cc
 domain-taken Fixed mine = cc
 domain-taken Unspelled mine = cc
@@ -75,7 +80,15 @@ owner-kept old new page owner size same none owned = ⊎_elim
     rw (size, t) (ap owner_in now))
     (cases_Bool (nat_lt page (first_page old.size)))
 
-module _ (old new : Kernel) (space : ℕ) (leaves : LeavesSpaces old new space) (bank : BankGood new) (whole : AllWhole new.bank) (standing : Standing old) where
+-- nodes of domains, where whatever belongs to no tree is as it was
+pub nodes-kept : (old new : Kernel) → domain_rows new ≡ domain_rows old → KeepsApart old new → NodesHeld (domain_rows old) old.node_entries → NodesHeld (domain_rows new) new.node_entries
+nodes-kept old new rows apart held = subst (λ rows. NodesHeld rows new.node_entries) (sym rows)
+    (λ node mine.
+    let taken = domain-taken (entry_at new.node_entries node) mine in
+    let was = (node_stays_apart old new node DomainNode taken.0 apart refl).1 taken.1 in
+    held node (ap of_domain was))
+
+module _ (old new : Kernel) (space : ℕ) (loose : Loose) (leaves : LeavesSpaces old new space) (bank : BankGood new) (whole : AllWhole new.bank) (standing : StandingBut old loose) where
   size-same : new.size ≡ old.size
   size-same = ap (λ (k : Kernel). k.size) leaves.rest
 
@@ -114,15 +127,26 @@ module _ (old new : Kernel) (space : ℕ) (leaves : LeavesSpaces old new space) 
         buffers_differ = standing.holdings.buffers_differ;
       })
 
-  held-good : AllHeld (domains new) (forest_of new) (page_owners new) (inodes_of new)
-  held-good = subst (λ (table : ℕ → Domain). AllHeld table (forest_of new) (page_owners new) (inodes_of new)) (sym domains-same)
-      (subst (λ (table : ℕ → Option Inode). AllHeld (domains old) (forest_of new) (page_owners new) table) (sym there-same)
+  held-good : HeldBut loose (domains new) (forest_of new) (page_owners new) (inodes_of new)
+  held-good = subst (λ (table : ℕ → Domain). HeldBut loose table (forest_of new) (page_owners new) (inodes_of new)) (sym domains-same)
+      (subst (λ (table : ℕ → Option Inode). HeldBut loose (domains old) (forest_of new) (page_owners new) table) (sym there-same)
       (record {
-        spaces = λ held is owned. standing.held.spaces held (leaves.roots held is).was (owner-before held OfProcess is owned);
-        trees = λ held is owned. standing.held.trees held (leaves.roots held is).was (owner-before held OfFile is owned);
+        spaces = λ held is owned apart. standing.held.spaces held (leaves.roots held is).was (owner-before held OfProcess is owned) apart;
+        trees = λ held is owned apart. standing.held.trees held (leaves.roots held is).was (owner-before held OfFile is owned) apart;
         buffers = λ page owned. standing.held.buffers page (owned-before page Buffer refl owned);
-        pipes = λ page owned. standing.held.pipes page (owned-before page PipePage refl owned);
+        pipes = λ page owned apart. standing.held.pipes page (owned-before page PipePage refl owned) apart;
       }))
+
+  taken-still : (loose : Loose) → IsTaken (forest_of old) (page_owners old) loose → IsTaken (forest_of new) (page_owners new) loose
+  taken-still Nothing taken = tt
+  taken-still (Space held) taken = space-now held OfProcess taken
+  taken-still (Tree held) taken = space-now held OfFile taken
+  taken-still (Ring page) taken = owned-now page PipePage refl taken
+
+  loose-good : IsLoose loose (domains new) (forest_of new) (page_owners new) (inodes_of new)
+  loose-good = subst (λ (table : ℕ → Domain). IsLoose loose table (forest_of new) (page_owners new) (inodes_of new)) (sym domains-same)
+      (subst (λ (table : ℕ → Option Inode). IsLoose loose (domains old) (forest_of new) (page_owners new) table) (sym there-same)
+      (record { taken = taken-still loose standing.is_loose.taken; no_space = standing.is_loose.no_space; no_root = standing.is_loose.no_root }))
 
   keepers-good : KeepersGood (forest_of new)
   keepers-good =
@@ -131,32 +155,26 @@ module _ (old new : Kernel) (space : ℕ) (leaves : LeavesSpaces old new space) 
         of_file = λ held is owned. (leaves.roots held is).keeper ∙ standing.keepers.of_file held (leaves.roots held is).was (owner-before held OfFile is owned);
       }
 
-  nodes-good : NodesHeld (domain_rows new) new.node_entries
-  nodes-good = subst (λ rows. NodesHeld rows new.node_entries) (sym rows-same)
-      (λ node mine.
-      let taken = domain-taken (entry_at new.node_entries node) mine in
-      let was = (node_stays_apart old new node DomainNode taken.0 leaves.apart_now refl).1 taken.1 in
-      standing.nodes_held node (ap of_domain was))
-
   -- what stands, given the roots of files
-  stands-with : RootsGood (forest_of new) (memory_page new) (page_owners new) (inodes_of old) → Standing new
+  stands-with : RootsGood (forest_of new) (memory_page new) (page_owners new) (inodes_of old) → StandingBut new loose
   stands-with roots =
-      let named : named_by new.inodes ≡ named_by old.inodes = ap named_by inodes-same in
+      let outside : outside_with new loose ≡ outside_with old loose = ap (λ (rows : List (Row Inode)). and_outside (named_by rows) (loose_key loose)) inodes-same in
       record {
         bank = bank;
         whole = whole;
         unused = rw (ap (λ (k : Kernel). k.page_zero) leaves.rest, ap (λ (k : Kernel). k.other_words) leaves.rest) standing.unused;
-        trees = subst (λ (outside : Outside). TreesGood new outside []) (sym named) (leaves.trees (named_by old.inodes) standing.trees);
-        pages_inside = subst (λ (outside : Outside). NoPageOutside (forest_of new) (outside_trees new outside)) (sym named) (leaves.inside (named_by old.inodes) standing.trees standing.pages_inside);
+        trees = subst (λ (outside : Outside). TreesGood new outside []) (sym outside) (leaves.trees (outside_with old loose) standing.trees);
+        pages_inside = subst (λ (outside : Outside). NoPageOutside (forest_of new) (outside_trees new outside)) (sym outside) (leaves.inside (outside_with old loose) standing.trees standing.pages_inside);
         filled = leaves.filled standing.filled;
         rows = subst RowsGood (sym rows-same) standing.rows;
-        nodes_held = nodes-good;
+        nodes_held = nodes-kept old new rows-same leaves.apart_now standing.nodes_held;
         inodes = rw inodes-same standing.inodes;
         descriptions = rw (ap (λ (k : Kernel). k.descriptions) leaves.rest) standing.descriptions;
         holdings = holdings-good;
         roots = subst (λ (table : ℕ → Option Inode). RootsGood (forest_of new) (memory_page new) (page_owners new) table) (sym there-same) roots;
         keepers = keepers-good;
         held = held-good;
+        is_loose = loose-good;
       }
 
   -- the roots of files, where each of their trees is one still
@@ -215,7 +233,7 @@ spaces-same old new space map changes other = (
   λ is. (changes.roots other is).was,
 )
 
-pub remap_leaves : law.RemapLeaves
+pub remap_leaves : standing_law.RemapLeaves
 remap_leaves old new space few map outside trees remaps =
     let changes = (remaps.changes outside trees).1 in
     record {
@@ -230,38 +248,41 @@ remap_leaves old new space few map outside trees remaps =
       rest = unreleased old new remaps.rest;
     }
 
--- a call that may give a page back: what other spaces map isn't given back, so it has the bytes that it had
-module _ (old new : Kernel) (space few : ℕ) (map : ℕ → Option Mapping) (outside : Outside) (trees : TreesGood old outside []) (good : BankGood new) (replaces : Replaces old new space few map) where
-  after : TreesGood new outside [] × ChangesMap (forest_of old) (forest_of new) space map
-  after = replaces.changes outside trees
+-- a memory by the same map, of pages with the same bytes
+pub memory-by-map : (old new : Kernel) (space : ℕ) → map_of (forest_of new).keys space ≡ map_of (forest_of old).keys space
+    → ((number : ℕ) (mapping : Mapping) → map_of (forest_of old).keys space number ≡ Some mapping → memory_page new mapping.page ≡ memory_page old mapping.page)
+    → space_memory new space ≡ space_memory old space
+unfolding memory_by
+memory-by-map old new space map bytes =
+    ap (memory_by (memory_page new)) map
+    ∙ fun_ext (λ number. made-same (page_of (memory_page new)) (page_of (memory_page old)) (map_of (forest_of old).keys space number)
+    (λ mapping mapped. ap (λ content. let page : Page = record { writable = mapping.writable; bytes = content } in page) (bytes number mapping mapped)))
 
-  bytes-kept : (other number : ℕ) (mapping : Mapping) → IsSpace (forest_of old) [] other → other ≢ space → map_of (forest_of old).keys other number ≡ Some mapping
+-- a call that may give pages back: what a space maps still isn't given back, so it has the bytes that it had
+module _ (old new : Kernel) (rest : KeepsUnreleased old new) (good : BankGood new) (sound : Sound (forest_of new))
+    (bytes : (number : ℕ) → IsBankPage old.size number → (IsSome ((forest_of old).owner (PageObject number)) → IsSome ((forest_of new).owner (PageObject number)))
+    → bank_page new number ≡ bank_page old number) where
+  bytes-kept : (space number : ℕ) (mapping : Mapping) → IsSpace (forest_of new) [] space → map_of (forest_of new).keys space number ≡ Some mapping
       → memory_page new mapping.page ≡ memory_page old mapping.page
-  bytes-kept other number mapping is differs mapped = ⊎_elim
-      (λ (t : mapping.page ≡ 0). rw t (ap (λ (k : Kernel). k.page_zero) replaces.rest))
+  bytes-kept space number mapping is mapped = ⊎_elim
+      (λ (t : mapping.page ≡ 0). rw t (ap (λ (k : Kernel). k.page_zero) rest))
       (λ (real : mapping.page ≢ 0).
-      let now = ap (λ (table : ℕ → Option Mapping). table number) (after.1.others.maps other is differs) ∙ mapped in
-      let found = found_at (forest_of new).keys other number mapping now in
-      let named_it = mapped_named (key_at_page (forest_of new).keys other number) mapping found.maps real in
-      let some = end_owned (forest_of new) [] after.0.held.sound other (after.1.others.stay other is differs) (page_way number) (PageObject mapping.page) named_it in
-      let inside = subst (λ size. IsBankPage size mapping.page) (ap (λ (k : Kernel). k.size) replaces.rest) (its_page new mapping.page (page_inside new mapping.page good some)) in
-      rw (ne_eqb mapping.page 0 real) (replaces.bytes mapping.page inside (λ was. some)))
+      let some = found_owned (forest_of new) space number mapping sound is mapped real in
+      let inside = subst (λ size. IsBankPage size mapping.page) (ap (λ (k : Kernel). k.size) rest) (its_page new mapping.page (page_inside new mapping.page good some)) in
+      rw (ne_eqb mapping.page 0 real) (bytes mapping.page inside (λ was. some)))
       (cases_eq mapping.page 0)
 
-  memory-kept : (other : ℕ) → IsSpace (forest_of old) [] other → other ≢ space → space_memory new other ≡ space_memory old other
-  unfolding memory_by
-  memory-kept other is differs =
-      ap (memory_by (memory_page new)) (after.1.others.maps other is differs)
-      ∙ fun_ext (λ number. made-same (page_of (memory_page new)) (page_of (memory_page old)) (map_of (forest_of old).keys other number)
-      (λ mapping mapped. ap (λ content. let page : Page = record { writable = mapping.writable; bytes = content } in page) (bytes-kept other number mapping is differs mapped)))
+  pub memory-kept : (space : ℕ) → IsSpace (forest_of new) [] space → map_of (forest_of new).keys space ≡ map_of (forest_of old).keys space → space_memory new space ≡ space_memory old space
+  memory-kept space is map = memory-by-map old new space map (λ number mapping mapped. bytes-kept space number mapping is (ap (λ (table : ℕ → Option Mapping). table number) map ∙ mapped))
 
-pub replace_leaves : law.ReplaceLeaves
+pub replace_leaves : standing_law.ReplaceLeaves
 replace_leaves old new space few map outside trees good replaces =
-    let changes = (replaces.changes outside trees).1 in
+    let after = replaces.changes outside trees in
+    let changes = after.1 in
     record {
       spaces = spaces-same (forest_of old) (forest_of new) space map changes;
       roots = changes.roots;
-      memories = memory-kept old new space few map outside trees good replaces;
+      memories = λ other is d. memory-kept old new replaces.rest good after.0.held.sound replaces.bytes other (changes.others.stay other is d) (changes.others.maps other is d);
       trees = λ all held. (replaces.changes all held).0;
       inside = λ all held. replaces.inside all;
       filled = replaces.filled;
@@ -270,7 +291,7 @@ replace_leaves old new space few map outside trees good replaces =
       rest = replaces.rest;
     }
 
-pub put_leaves : law.PutLeaves
+pub put_leaves : standing_law.PutLeaves
 put_leaves old new space place bytes puts = record {
   spaces = puts.spaces;
   roots = puts.roots;
@@ -283,16 +304,37 @@ put_leaves old new space place bytes puts = record {
   rest = puts.rest;
 }
 
-pub standing_with_memory : law.StandingWithMemory
-standing_with_memory old new space leaves owner bank whole standing =
-    stands-with old new space leaves bank whole standing (roots-with old new space leaves bank whole standing
+-- the space of a process is another one, and trees of files are as they were
+but-memory : (old new : Kernel) (space : ℕ) (loose : Loose) → LeavesSpaces old new space → (forest_of old).owner (NodeObject space) ≡ Some OfProcess → BankGood new → AllWhole new.bank
+    → StandingBut old loose → StandingBut new loose
+but-memory old new space loose leaves owner bank whole standing =
+    stands-with old new space loose leaves bank whole standing (roots-with old new space loose leaves bank whole standing
     (λ number inode there tree some is owned file.
     tree-by-memory (forest_of old).keys (forest_of new).keys (memory_page old) (memory_page new) inode.root inode.length
     (leaves.memories inode.root is (λ same. let no : Some OfFile ≡ Some OfProcess = sym owned ∙ ap (λ n. (forest_of old).owner (NodeObject n)) same ∙ owner in cc)) file))
 
-pub standing_with_tree : law.StandingWithTree
+-- a tree that no inode has is another one
+but-tree : (old new : Kernel) (space : ℕ) → LeavesSpaces old new space → BankGood new → AllWhole new.bank → StandingBut old (Tree space) → StandingBut new (Tree space)
+but-tree old new space leaves bank whole standing =
+    stands-with old new space (Tree space) leaves bank whole standing (roots-with old new space (Tree space) leaves bank whole standing
+    (λ number inode there tree some is owned file.
+    tree-by-memory (forest_of old).keys (forest_of new).keys (memory_page old) (memory_page new) inode.root inode.length
+    (leaves.memories inode.root is
+    (not-loose OfFile space (domains old) (forest_of old) (page_owners old) (inodes_of old) standing.is_loose number inode there tree some owned)) file))
+
+pub standing_with_loose : law.StandingWithLoose
+standing_with_loose old new space OfProcess leaves bank whole standing = but-memory old new space (Space space) leaves standing.is_loose.taken.1 bank whole standing
+standing_with_loose old new space OfFile leaves bank whole standing = but-tree old new space leaves bank whole standing
+
+pub standing_with_memory : standing_law.StandingWithMemory
+standing_with_memory old new space leaves owner bank whole standing =
+    (nothing_loose new).1 (but-memory old new space Nothing leaves owner bank whole ((nothing_loose old).0 standing))
+
+pub standing_with_tree : standing_law.StandingWithTree
 standing_with_tree old new space number inode leaves there tree root file bank whole standing =
-    stands-with old new space leaves bank whole standing (roots-with old new space leaves bank whole standing
+    let but = (nothing_loose old).0 standing in
+    (nothing_loose new).1
+    (stands-with old new space Nothing leaves bank whole but (roots-with old new space Nothing leaves bank whole but
     (λ other row found has some is owned before. ⊎_elim
     (λ (t : other ≡ number).
     let both : Some inode ≡ Some row = sym there ∙ ap (at (inodes_of old)) (sym t) ∙ found in
@@ -302,4 +344,4 @@ standing_with_tree old new space number inode leaves there tree root file bank w
     (λ (d : other ≢ number).
     tree-by-memory (forest_of old).keys (forest_of new).keys (memory_page old) (memory_page new) row.root row.length
     (leaves.memories row.root is (λ same. d (standing.roots.trees_differ other number row inode found there has tree some (same ∙ sym root)))) before)
-    (cases_eq other number)))
+    (cases_eq other number))))

@@ -1,13 +1,11 @@
 -- What stands within a turn too goes along with single calls.
-use Rattle.std.proofs.Common.{◌≡◌, ◌≢◌, ◌⊎◌, ◌<◌, ◌≤◌, ◌-◌, ℕ, Option, Some, None, true, false, List, [], length, slice_set, slice_index_or, set, get_or, refl, sym, ap, ap₂, subst, ◌∙◌, arith, ⊎_elim, inl, inr}
+use Rattle.std.proofs.Common.{◌≡◌, ◌≢◌, ◌⊎◌, ◌<◌, ◌≤◌, ◌-◌, ℕ, Option, Some, None, true, false, List, [], length, slice_set, refl, sym, ap, ap₂, subst, ◌∙◌, arith, ⊎_elim, inl, inr}
 use Rattle.std.specs.Prelude.{◌==◌, if◌then◌else◌}
 use Rattle.std.proofs.Math.Path.{fun_ext}
 use Rattle.std.specs.Option.{is_some}
-use Rattle.std.proofs.lemmas.Bool.{cases_eq, cases_lt, lt-ltb, le-ltb}
-use Rattle.std.proofs.lemmas.List.{length-set, get_or-set_same, get_or-set_other}
+use Rattle.std.proofs.lemmas.Bool.{cases_eq}
+use Rattle.std.proofs.lemmas.List.{get_or-set_other}
 use Rattle.kn_base.specs.declared.key.Key.{Key}
-use Rattle.kernel_tables.specs.declared.entry.Entry.{Entry}
-use Rattle.kernel_tables.specs.declared.entry.Entry.TheVariants.{Free, Taken, Fixed, Unspelled}
 use Rattle.kernel_tables.specs.declared.entry.PageOwner.{PageOwner}
 use Rattle.kernel_tables.specs.declared.inode.Inode.{Inode}
 use Rattle.kernel_tables.specs.declared.inode.InodeKind.{InodeKind}
@@ -18,16 +16,16 @@ use Rattle.kernel_tables.specs.Kernel.{Kernel, IsBankPage, inode_at, first_page,
 use Rattle.kernel_tables.specs.Rows.{domain_rows, entry_at, of_domain}
 use Rattle.space_bank.specs.Bank.{BankGood}
 use Rattle.space_bank.specs.Shares.{Outside}
-use Rattle.forest.specs.Forest.{Forest, IsSpace, NoneEmpty, NoPageOutside}
+use Rattle.forest.specs.Forest.{Forest, IsSpace, NoneEmpty, NoPageOutside, Sound}
 use Rattle.forest.specs.Objects.{Object, PageObject}
 use Rattle.forest.specs.Walks.{Mapping, map_of, key_at_page, page_way}
 use Rattle.forest.proofs.CopyLaws.{end_owned}
 use Rattle.forest.proofs.OwnLaws.{found_at, mapped_named}
 use Rattle.kernel_forest.proofs.Bridge.{page_inside}
 use Rattle.kernel_forest.proofs.Moves.{bank_page as its_page}
-use Rattle.kernel_forest.specs.Trees.{forest_of, outside_trees, owner_of, tree_in, page_tree, TreesGood}
+use Rattle.kernel_forest.specs.Trees.{forest_of, outside_trees, page_tree, TreesGood}
 use Rattle.file_tables.specs.Roots.{named_by, root_key, word_key}
-use Rattle.file_tables.specs.Rows.{InodesGood}
+use Rattle.file_tables.specs.Rows.{InodesGood, DescriptionsGood}
 use Rattle.file_tables.proofs.RootLaws.{kept, trees_beside}
 use Rattle.domain.specs.Domains.{Domain, Life, domains, domain_at, full_domain}
 use Rattle.domain.specs.Keys.{is_meter, node_in}
@@ -42,7 +40,7 @@ use Rattle.unix_model.proofs.TableLaws.{at-with_at, at-with_at-other}
 use Rattle.user_copy.specs.SpaceMemory.{memory_by, page_of}
 use Rattle.kernel_machine.specs.Good.{Good}
 use Rattle.kernel_machine.specs.Held.{AllHeld, IsNodeOf}
-use Rattle.kernel_machine.specs.Machine.{KernelMachine, machine_of, inodes_of, page_owner_of, owner_in, held}
+use Rattle.kernel_machine.specs.Machine.{KernelMachine, machine_of, inodes_of, held}
 use Rattle.kernel_machine.specs.Processes.{IsInSlot, HoldingsGood}
 use Rattle.kernel_machine.specs.Standing as law
 use Rattle.kernel_machine.specs.Standing.{Standing, Settled, HasSame, page_owners}
@@ -51,6 +49,7 @@ use Rattle.kernel_machine.proofs.HeldLaws.{stays, held_with_domain, held_with_in
 use Rattle.kernel_machine.proofs.KeepLaws.{trees_with_numbers}
 use Rattle.kernel_machine.proofs.MachineLaws.{inode_written}
 use Rattle.kernel_machine.proofs.MemoryLaws.{made-same}
+use Rattle.kernel_machine.proofs.OwnerLaws.{owned-in-bank, unowned-by, whole-set}
 
 -- ---- both together
 
@@ -333,7 +332,7 @@ standing_with_description old new descriptions e good standing = subst (λ (k : 
       rows = standing.rows;
       nodes_held = standing.nodes_held;
       inodes = standing.inodes;
-      descriptions = good;
+      descriptions = subst (λ (k : Kernel). DescriptionsGood k.descriptions) e good;
       holdings = standing.holdings;
       roots = standing.roots;
       keepers = standing.keepers;
@@ -367,29 +366,15 @@ standing_with_words old new next_pid position promised e bank standing = subst (
       held = standing.held;
     })
 
--- the owner of a page that belongs to no tree
-no-tree : (entry : Entry PageOwner) (owner : PageOwner) → owner_in entry ≡ Some owner → page_tree owner ≡ None → tree_in page_tree entry ≡ None
-no-tree (Free next) owner e none = refl
-no-tree (Taken held count) owner e none = let same : held ≡ owner = cc in ap page_tree same ∙ none
-no-tree Fixed owner e none = refl
-no-tree Unspelled owner e none = refl
-
-module _ (old : Kernel) (page : ℕ) (owner : PageOwner) (bytes : List ℕ) (owned : at (page_owners old) page ≡ Some owner) (none : page_tree owner ≡ None) (standing : Standing old) where
+module _ (old : Kernel) (page : ℕ) (owner : PageOwner) (bytes : List ℕ) (owned : at (page_owners old) page ≡ Some owner) (none : page_tree owner ≡ None) (bank : BankGood old) (sound : Sound (forest_of old)) where
   abbrev written : Kernel
   written = record old { bank = with_bank_page old page bytes }
 
   in-bank : first_page old.size ≤ page
-  unfolding page_owner_of at
-  in-bank = ⊎_elim
-      (λ (t : page < first_page old.size). let no : None ≡ Some owner = rw (lt-ltb page (first_page old.size) t) at owned in cc)
-      (λ (t : first_page old.size ≤ page). t)
-      (cases_lt page (first_page old.size))
+  in-bank = owned-in-bank old page owner owned
 
   unowned : (forest_of old).owner (PageObject page) ≡ None
-  unfolding page_owner_of owner_of at
-  unowned =
-      let test = le-ltb page (first_page old.size) in-bank in
-      rw test (no-tree (entry_at old.page_entries (page - first_page old.size)) owner (let own : owner_in (entry_at old.page_entries (page - first_page old.size)) ≡ Some owner = rw test at owned in own) none)
+  unowned = unowned-by old page owner owned none
 
   -- pages of trees are other ones
   mapped-apart : (space number : ℕ) (mapping : Mapping) → IsSpace (forest_of old) [] space → map_of (forest_of old).keys space number ≡ Some mapping
@@ -399,8 +384,8 @@ module _ (old : Kernel) (page : ℕ) (owner : PageOwner) (bytes : List ℕ) (own
       (λ (real : mapping.page ≢ 0).
       let found = found_at (forest_of old).keys space number mapping mapped in
       let named_it = mapped_named (key_at_page (forest_of old).keys space number) mapping found.maps real in
-      let some = end_owned (forest_of old) [] standing.trees.held.sound space is (page_way number) (PageObject mapping.page) named_it in
-      let inside = page_inside old mapping.page standing.bank some in
+      let some = end_owned (forest_of old) [] sound space is (page_way number) (PageObject mapping.page) named_it in
+      let inside = page_inside old mapping.page bank some in
       inr ((λ same. let no : true ≡ false = sym some ∙ ap (λ n. is_some ((forest_of old).owner (PageObject n))) same ∙ ap is_some unowned in cc), its_page old mapping.page inside))
       (cases_eq mapping.page 0)
 
@@ -414,7 +399,7 @@ module _ (old : Kernel) (page : ℕ) (owner : PageOwner) (bytes : List ℕ) (own
       (get_or-set_other old.bank (page - first_page old.size) (mapping.page - first_page old.size) bytes [] (λ e. t.0 (omega (arith, e, in-bank)))))
       (mapped-apart space number mapping is mapped)
 
-  same-memory : (space : ℕ) → IsSpace (forest_of old) [] space → memory_by (memory_page written) (map_of (forest_of old).keys space) ≡ memory_by (memory_page old) (map_of (forest_of old).keys space)
+  pub same-memory : (space : ℕ) → IsSpace (forest_of old) [] space → memory_by (memory_page written) (map_of (forest_of old).keys space) ≡ memory_by (memory_page old) (map_of (forest_of old).keys space)
   unfolding memory_by
   same-memory space is = fun_ext (λ number. made-same (page_of (memory_page written)) (page_of (memory_page old)) (map_of (forest_of old).keys space number)
       (λ mapping mapped. ap (λ content. let now : Page = record { writable = mapping.writable; bytes = content } in now) (same-bytes space number mapping is mapped)))
@@ -422,55 +407,47 @@ module _ (old : Kernel) (page : ℕ) (owner : PageOwner) (bytes : List ℕ) (own
   tree-same : (root size : ℕ) → IsSpace (forest_of old) [] root → IsFileTree (forest_of old).keys (memory_page old) root size → IsFileTree (forest_of old).keys (memory_page written) root size
   tree-same root size is tree = record { some_page = tree.some_page; within = tree.within; writable = tree.writable; zeros = rw (same-memory root is) tree.zeros }
 
-  root-same : (inode : Inode) (kind : InodeKind) → IsRootOf (forest_of old) (memory_page old) (page_owners old) inode kind → IsRootOf (forest_of old) (memory_page written) (page_owners old) inode kind
+  pub root-same : (inode : Inode) (kind : InodeKind) → IsRootOf (forest_of old) (memory_page old) (page_owners old) inode kind → IsRootOf (forest_of old) (memory_page written) (page_owners old) inode kind
   root-same inode File is = λ some. let h = is some in (h.0, h.1, tree-same inode.root inode.length h.0 h.2)
   root-same inode Dir is = λ some. let h = is some in (h.0, h.1, tree-same inode.root inode.length h.0 h.2)
   root-same inode Pipe is = is
   root-same inode Console is = is
 
-  whole-same : length bytes ≡ 4096 → (number : ℕ) → number < length (with_bank_page old page bytes) → length (slice_index_or (with_bank_page old page bytes) number []) ≡ 4096
-  whole-same size number low =
-      let all : length (set old.bank (page - first_page old.size) bytes) ≡ length old.bank = length-set old.bank (page - first_page old.size) bytes in
-      ⊎_elim
-      (λ (t : number ≡ page - first_page old.size).
-      ap (λ n. length (get_or (set old.bank (page - first_page old.size) bytes) n [])) t ∙ ap length (get_or-set_same old.bank (page - first_page old.size) bytes [] (omega arith)) ∙ size)
-      (λ (d : number ≢ page - first_page old.size). ap length (get_or-set_other old.bank (page - first_page old.size) number bytes [] d) ∙ standing.whole number (omega arith))
-      (cases_eq number (page - first_page old.size))
-
-  with-bytes : length bytes ≡ 4096 → BankGood written → Standing written
-  unfolding inodes_of
-  with-bytes size bank =
-      record {
-        bank = bank;
-        whole = whole-same size;
-        unused = standing.unused;
-        trees = record {
-          shares = standing.trees.shares;
-          held = standing.trees.held;
-          in_hand = standing.trees.in_hand;
-          short = standing.trees.short;
-          in_trees = standing.trees.in_trees;
-          single = standing.trees.single;
-        };
-        pages_inside = standing.pages_inside;
-        filled = standing.filled;
-        rows = standing.rows;
-        nodes_held = standing.nodes_held;
-        inodes = standing.inodes;
-        descriptions = standing.descriptions;
-        holdings = standing.holdings;
-        roots = record {
-          each = λ number inode there. root-same inode inode.kind (standing.roots.each number inode there);
-          trees_differ = standing.roots.trees_differ;
-          pipes_differ = standing.roots.pipes_differ;
-        };
-        keepers = standing.keepers;
-        held = standing.held;
-      }
+with-bytes : (old : Kernel) (page : ℕ) (owner : PageOwner) (bytes : List ℕ) → at (page_owners old) page ≡ Some owner → page_tree owner ≡ None → length bytes ≡ 4096
+    → BankGood (record old { bank = with_bank_page old page bytes }) → Standing old → Standing (record old { bank = with_bank_page old page bytes })
+unfolding inodes_of
+with-bytes old page owner bytes owned none size bank standing =
+    record {
+      bank = bank;
+      whole = whole-set old.bank (page - first_page old.size) bytes size standing.whole;
+      unused = standing.unused;
+      trees = record {
+        shares = standing.trees.shares;
+        held = standing.trees.held;
+        in_hand = standing.trees.in_hand;
+        short = standing.trees.short;
+        in_trees = standing.trees.in_trees;
+        single = standing.trees.single;
+      };
+      pages_inside = standing.pages_inside;
+      filled = standing.filled;
+      rows = standing.rows;
+      nodes_held = standing.nodes_held;
+      inodes = standing.inodes;
+      descriptions = standing.descriptions;
+      holdings = standing.holdings;
+      roots = record {
+        each = λ number inode there. root-same old page owner bytes owned none standing.bank standing.trees.held.sound inode inode.kind (standing.roots.each number inode there);
+        trees_differ = standing.roots.trees_differ;
+        pipes_differ = standing.roots.pipes_differ;
+      };
+      keepers = standing.keepers;
+      held = standing.held;
+    }
 
 pub standing_with_bytes : law.StandingWithBytes
 standing_with_bytes old new page owner bytes owned none size e bank standing =
-    subst (λ (k : Kernel). Standing k) (sym e) (with-bytes old page owner bytes owned none standing size (subst BankGood e bank))
+    subst (λ (k : Kernel). Standing k) (sym e) (with-bytes old page owner bytes owned none size (subst BankGood e bank) standing)
 
 -- ---- slots
 

@@ -10,4 +10,5 @@ pub mod Good
 pub mod Laws
 pub mod Keeps
 pub mod Standing
+pub mod Loose
 pub mod Bounds

@@ -1,6 +1,6 @@
 -- What holds also within a turn, while states, counts and the flat state don't agree yet, and what agrees between turns; and how
 -- single calls keep what stands, each law as one statement.
-use Rattle.std.specs.Prelude.{◌≡◌, ◌≢◌, ◌↔◌, ◌<◌, ℕ, true, Option, Some, None, List, [], length, slice_set}
+use Rattle.std.specs.Prelude.{◌≡◌, ◌≢◌, ◌↔◌, ◌<◌, ◌≤◌, ◌+◌, ℕ, true, Option, Some, None, List, [], length, slice_set}
 use Rattle.kn_base.specs.declared.key.Key.{Key}
 use Rattle.kernel_tables.specs.declared.description.Description.{Description}
 use Rattle.kernel_tables.specs.declared.entry.PageOwner.{PageOwner}
@@ -22,10 +22,12 @@ use Rattle.kernel_forest.specs.Trees.{forest_of, outside_trees, page_tree, Trees
 use Rattle.file_tables.specs.Roots.{named_by, ExchangesRoots}
 use Rattle.file_tables.specs.Rows.{InodesGood, DescriptionsGood}
 use Rattle.seg_tree.specs.Promises.{Adds, Remaps, Replaces}
+use Rattle.seg_tree.specs.Writes.{Owns}
 use Rattle.user_copy.specs.SpaceMemory.{space_memory}
 use Rattle.user_copy.specs.Writing.{PutsBytes}
 use Rattle.domain.specs.Domains.{Domain, Life, domains}
-use Rattle.domain.specs.Ends.{MakesZombie}
+use Rattle.domain.specs.Buffers.{WritesBuffer, DropsBuffer}
+use Rattle.domain.specs.Ends.{MakesZombie, MayDrop, DropsDomain}
 use Rattle.domain.specs.Life.{MakesDomain}
 use Rattle.domain.specs.Rules.{RowsGood}
 use Rattle.domain.specs.Sets.{WritesNumbers}
@@ -110,7 +112,7 @@ StandingWithInode =
 abbrev pub StandingWithDescription : Type 0
 StandingWithDescription =
     (old new : Kernel) (descriptions : List (Row Description))
-    → new ≡ record old { descriptions = descriptions } → DescriptionsGood descriptions → Standing old → Standing new
+    → new ≡ record old { descriptions = descriptions } → DescriptionsGood new.descriptions → Standing old → Standing new
 
 -- The next process id, the position or the promised pages are other ones.
 abbrev pub StandingWithWords : Type 0
@@ -153,6 +155,12 @@ ReplaceLeaves =
     (old new : Kernel) (space few : ℕ) (map : ℕ → Option Mapping) (outside : Outside)
     → TreesGood old outside [] → BankGood new → Replaces old new space few map → LeavesSpaces old new space
 
+-- .. the one that makes a page the space's own before it is written, ..
+abbrev pub OwnsLeaves : Type 0
+OwnsLeaves =
+    (old new : Kernel) (space page result : ℕ) (owner : PageOwner) (outside : Outside)
+    → TreesGood old outside [] → BankGood old → Owns old new space page result owner → LeavesSpaces old new space
+
 -- .. and the one that puts bytes.
 abbrev pub PutLeaves : Type 0
 PutLeaves = (old new : Kernel) (space at : ℕ) (bytes : List ℕ) → PutsBytes old new space at bytes → LeavesSpaces old new space
@@ -185,6 +193,28 @@ StandingWithBirth =
 abbrev pub StandingWithEnd : Type 0
 StandingWithEnd =
     (old new : Kernel) (root : ℕ) → MakesZombie old new root → (at (domains old) root).live ≡ true
+    → BankGood new → RowsGood (domain_rows new) → Standing old → Standing new
+
+-- A zombie was dropped.
+abbrev pub StandingWithGone : Type 0
+StandingWithGone =
+    (old new : Kernel) (slot root : ℕ)
+    → DropsDomain old new slot root → MayDrop old root → BankGood new → RowsGood (domain_rows new) → Standing old → Standing new
+
+-- ---- buffers
+
+-- Bytes were written in the buffer of a domain, for which a page may have been taken.
+abbrev pub StandingWithBuffer : Type 0
+StandingWithBuffer =
+    (old new : Kernel) (root start : ℕ) (bytes : List ℕ)
+    → WritesBuffer old new root start bytes (at (domains old) root).buffer → (at (domains old) root).live ≡ true → start + length bytes ≤ 4096
+    → BankGood new → RowsGood (domain_rows new) → Standing old → Standing new
+
+-- The buffer of a domain was given back.
+abbrev pub StandingWithoutBuffer : Type 0
+StandingWithoutBuffer =
+    (old new : Kernel) (root page : ℕ)
+    → DropsBuffer old new root page → (at (domains old) root).live ≡ true → (at (domains old) root).buffer ≡ Some page
     → BankGood new → RowsGood (domain_rows new) → Standing old → Standing new
 
 -- ---- slots

@@ -5,6 +5,7 @@ mod bounds;
 mod calls;
 mod changes;
 mod keeps;
+mod loose;
 mod standing;
 mod views;
 
@@ -18,12 +19,20 @@ pub use changes::{
     description_written, files_written, inode_written, key_handed_over, numbers_written,
     spaces_changed,
 };
-pub use keeps::{fixed_with_birth, fixed_with_rows, trees_with_birth, trees_with_numbers};
+pub use keeps::{
+    fixed_with_birth, fixed_with_rows, store_is_whole, trees_with_birth, trees_with_numbers,
+};
+pub use loose::{
+    nothing_loose, standing_with_domain, standing_with_loose, standing_with_new_inode,
+    standing_with_page, standing_with_pipe, standing_with_root, standing_with_space,
+    standing_with_space_dropped, standing_with_space_set, standing_without_page,
+};
 pub use standing::{
-    good_is_both, put_leaves, remap_leaves, replace_leaves, slots_changed, standing_with_birth,
-    standing_with_bytes, standing_with_description, standing_with_end, standing_with_inode,
-    standing_with_life, standing_with_memory, standing_with_numbers, standing_with_tree,
-    standing_with_words,
+    good_is_both, owns_leaves, put_leaves, remap_leaves, replace_leaves, slots_changed,
+    standing_with_birth, standing_with_buffer, standing_with_bytes, standing_with_description,
+    standing_with_end, standing_with_gone, standing_with_inode, standing_with_life,
+    standing_with_memory, standing_with_numbers, standing_with_tree, standing_with_words,
+    standing_without_buffer,
 };
 pub use views::{
     description_changed, description_freed, domain_born, domain_changed, domain_gone,

@@ -1,6 +1,6 @@
 //! Laws of what stands within a turn too, and of what is settled between turns.
 
-ghost use Rattle.kernel_machine.specs.Standing.{GoodIsBoth, PutLeaves, RemapLeaves, ReplaceLeaves, SlotsChanged, StandingWithBirth, StandingWithBytes, StandingWithDescription, StandingWithEnd, StandingWithInode, StandingWithLife, StandingWithMemory, StandingWithNumbers, StandingWithTree, StandingWithWords};
+ghost use Rattle.kernel_machine.specs.Standing.{GoodIsBoth, OwnsLeaves, PutLeaves, RemapLeaves, ReplaceLeaves, SlotsChanged, StandingWithBirth, StandingWithBuffer, StandingWithBytes, StandingWithDescription, StandingWithEnd, StandingWithGone, StandingWithInode, StandingWithLife, StandingWithMemory, StandingWithNumbers, StandingWithTree, StandingWithWords, StandingWithoutBuffer};
 
 /// What stands, and what is settled, is all that holds between turns.
 pub fn good_is_both()
@@ -47,6 +47,11 @@ pub fn replace_leaves()
     ensures { ReplaceLeaves }
 {}
 
+/// So does the call that makes a page of a space its own before it is written.
+pub fn owns_leaves()
+    ensures { OwnsLeaves }
+{}
+
 /// So does the call that puts bytes into a space.
 pub fn put_leaves()
     ensures { PutLeaves }
@@ -70,6 +75,21 @@ pub fn standing_with_birth()
 /// A domain becomes a zombie.
 pub fn standing_with_end()
     ensures { StandingWithEnd }
+{}
+
+/// A zombie is dropped.
+pub fn standing_with_gone()
+    ensures { StandingWithGone }
+{}
+
+/// Bytes are written in the buffer of a domain, for which a page may be taken.
+pub fn standing_with_buffer()
+    ensures { StandingWithBuffer }
+{}
+
+/// The buffer of a domain is given back.
+pub fn standing_without_buffer()
+    ensures { StandingWithoutBuffer }
 {}
 
 /// The domain in a slot is another one, and its life and its key fit.
