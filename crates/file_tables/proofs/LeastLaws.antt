@@ -5,7 +5,7 @@ use Rattle.unix_model.specs.Tables.{least_below, option_or}
 use Rattle.unix_model.proofs.TableLaws.{least_below-step}
 
 -- it stays the least below any higher limit
-least_stays : (test : ℕ → Bool) (n k limit : ℕ) → n ≤ limit → least_below test n ≡ Some k → least_below test limit ≡ Some k
+pub least_stays : (test : ℕ → Bool) (n k limit : ℕ) → n ≤ limit → least_below test n ≡ Some k → least_below test limit ≡ Some k
 unfolding least_below
 least_stays test n k zero low e = subst (λ m. least_below test m ≡ Some k) (let same : n ≡ 0 = omega arith in same) e
 least_stays test n k (suc limit) low e = ⊎_elim

@@ -1,3 +1,5 @@
 -- in reading order
 pub mod Trees
 pub mod Pieces
+pub mod Cuts
+pub mod FileMemory

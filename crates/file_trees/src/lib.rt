@@ -2,8 +2,10 @@
 //! there is zero.
 #![tactic(auto)]
 
+mod cutting;
 mod reading;
 mod writing;
 
+pub use cutting::{clear_piece, cut_pages, maps_below};
 pub use reading::read_tree;
 pub use writing::put_piece;

@@ -1,0 +1,13 @@
+pub mod FoundPlaces
+pub mod Searches
+pub mod Seen
+pub mod Names
+pub mod Entries
+pub mod TreeWrites
+pub mod Changing
+pub mod Growing
+pub mod Stretching
+pub mod Planting
+pub mod FirstHoles
+pub mod Adding
+pub mod AddsNames

@@ -1,0 +1,41 @@
+use Rattle.std.proofs.Common.{ap, sym, subst, ◌∙◌, arith}
+use Rattle.kernel_tables.specs.Kernel.{Kernel, kernel_of}
+use Rattle.kernel_tables.proofs.Sizes.{length-inodes, length-memory_page}
+use Rattle.file_tables.specs.Rows.{InodesGood}
+use Rattle.dir_domain.proofs.Changing.{all-whole}
+use Rattle.dir_domain.proofs.Planting.{place-planted}
+use Rattle.dir_domain.proofs.Stretching.{right-with}
+use Rattle.dir_domain.proofs.add.root_place.Goals as goal
+
+pub set_inode-requires : goal.set_inode-requires
+set_inode-requires g c =
+    let planted = c.plant-tree.ensures.planted in
+    record {
+      sized = c.plant-tree.ensures.good.sized;
+      good = subst InodesGood (sym (ap (λ (k : Kernel). k.inodes) planted.puts.leaves.rest ∙ ap (λ (k : Kernel). k.inodes) planted.adds.rest)) c.requires.standing.inodes;
+      number = c.requires.row.below;
+      right = right-with c.args.dir c.args.row c.plant-tree.result.0.0 c.args.length c.requires.row.right c.requires.row.kind c.requires.few c.requires.whole;
+    }
+
+pub returns-clause-changed : goal.returns-clause-changed
+returns-clause-changed g c =
+    let memory = g.T.Store.memory c.args.store.now in
+    let k2 = kernel_of (g.T.Store.memory c.plant-tree.new.store) in
+    let count = length-inodes memory c.requires.standing.bank.sized in
+    let below = c.requires.row.below in
+    place-planted (kernel_of memory) k2 c.args.dir c.args.length c.args.number c.plant-tree.result.0.0 c.args.row c.args.bytes.now c.requires.standing c.requires.row c.requires.none (omega (arith, count))
+    c.told-bytes c.requires.number c.plant-tree.ensures.planted c.plant-tree.ensures.good (kernel_of (g.T.Store.memory c.set_inode.new.store)) c.set_inode.ensures.written c.requires.whole
+    c.set_inode.ensures.roots c.set_inode.ensures.good
+    (all-whole k2 c.plant-tree.ensures.good
+    (record { whole = λ page which. length-memory_page (g.T.Store.memory c.plant-tree.new.store) page c.plant-tree.ensures.good.sized which (g.met.T.Store.page_length c.plant-tree.new.store) }))
+
+pub returns-clause-promised : goal.returns-clause-promised
+returns-clause-promised g c =
+    let planted = c.plant-tree.ensures.planted in
+    ap (λ (k : Kernel). k.machine.promised) c.set_inode.ensures.written ∙ ap (λ (k : Kernel). k.machine.promised) planted.puts.leaves.rest ∙ ap (λ (k : Kernel). k.machine.promised) planted.adds.rest
+
+pub returns-clause-most : goal.returns-clause-most
+returns-clause-most g c =
+    let same = ap (λ (k : Kernel). k.machine.nodes_taken) c.set_inode.ensures.written in
+    let most = c.plant-tree.ensures.most in
+    omega arith

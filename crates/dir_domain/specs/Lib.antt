@@ -1,0 +1,5 @@
+-- in reading order
+pub mod Places
+pub mod Rows
+pub mod Listing
+pub mod Changes

@@ -1,0 +1,69 @@
+//! Names go, or get another inode.
+
+ghost use Rattle.std.specs.Prelude.{◌≡◌, ℕ, ◌+◌, ◌≤◌, IfOk, OnErr, Some, None, true};
+ghost use Rattle.kn_base.specs.Memory.{Memory};
+ghost use Rattle.kernel_tables.specs.Kernel.{Kernel, kernel_of};
+ghost use Rattle.unix_model.specs.Files.{is_directory, with_place};
+ghost use Rattle.unix_model.specs.Rules.{IsName};
+ghost use Rattle.kernel_machine.specs.Standing.{Standing};
+ghost use Rattle.dir_domain.specs.Changes.{ChangesPlaces, HasRoom, name_told, entry_of};
+ghost use Rattle.dir_domain.specs.Rows.{inode_seen, places_seen};
+
+use super::place::entry_bytes;
+use super::row::directory_row;
+use super::search::find_place;
+use super::write::write_place;
+use kn_base::Store;
+use unix_model::Errno;
+
+/// Takes a name away from a directory: its place is a hole then, all its bytes zero. Answers the inode that had the name. ENOENT
+/// comes exactly where no place has it, and then nothing has changed.
+pub fn remove_name<T: Store>(store: &mut T, dir: u32, name: &[u8]) -> Result<u32, Errno>
+    requires standing { Standing (kernel_of (T.memory store.old)) }
+    requires directory { is_directory (inode_seen (kernel_of (T.memory store.old)) dir) ≡ true }
+    requires room { HasRoom (kernel_of (T.memory store.old)) dir }
+    ensures told { result ≡ name_told (places_seen (kernel_of (T.memory store.old)) dir) name.now }
+    ensures changed { let old = kernel_of (T.memory store.old) in IfOk result (λ inode. ChangesPlaces old (kernel_of (T.memory store.new)) dir (with_place (places_seen old dir) name.now None)) }
+    ensures refused { OnErr result (kernel_of (T.memory store.new) ≡ kernel_of (T.memory store.old)) }
+    ensures promised { (kernel_of (T.memory store.new)).machine.promised ≡ (kernel_of (T.memory store.old)).machine.promised }
+    ensures most { (kernel_of (T.memory store.new)).machine.nodes_taken ≤ (kernel_of (T.memory store.old)).machine.nodes_taken + 12 }
+    ensures keeps { T.keeps store.old store.new }
+{
+    let row = directory_row(store, dir);
+    match find_place(store, &row, name) {
+        Some(named) => {
+            write_place(store, &row, named.number, &[0; 32]);
+            Ok(named.inode)
+        }
+        None => Err(Errno::Enoent),
+    }
+}
+
+/// Puts another inode into the place of a name, which stays where it is. Answers the inode that had the name. ENOENT comes
+/// exactly where no place has it, and then nothing has changed.
+pub fn replace_name<T: Store>(
+    store: &mut T,
+    dir: u32,
+    name: &[u8],
+    inode: u32,
+) -> Result<u32, Errno>
+    requires standing { Standing (kernel_of (T.memory store.old)) }
+    requires directory { is_directory (inode_seen (kernel_of (T.memory store.old)) dir) ≡ true }
+    requires name { IsName name.now }
+    requires room { HasRoom (kernel_of (T.memory store.old)) dir }
+    ensures told { result ≡ name_told (places_seen (kernel_of (T.memory store.old)) dir) name.now }
+    ensures changed { let old = kernel_of (T.memory store.old) in IfOk result (λ was. ChangesPlaces old (kernel_of (T.memory store.new)) dir (with_place (places_seen old dir) name.now (Some (entry_of name.now inode)))) }
+    ensures refused { OnErr result (kernel_of (T.memory store.new) ≡ kernel_of (T.memory store.old)) }
+    ensures promised { (kernel_of (T.memory store.new)).machine.promised ≡ (kernel_of (T.memory store.old)).machine.promised }
+    ensures most { (kernel_of (T.memory store.new)).machine.nodes_taken ≤ (kernel_of (T.memory store.old)).machine.nodes_taken + 12 }
+    ensures keeps { T.keeps store.old store.new }
+{
+    let row = directory_row(store, dir);
+    match find_place(store, &row, name) {
+        Some(named) => {
+            write_place(store, &row, named.number, &entry_bytes(inode, name));
+            Ok(named.inode)
+        }
+        None => Err(Errno::Enoent),
+    }
+}

@@ -1,0 +1,78 @@
+-- The promise of a file and its row are written: what stands then, and what is seen.
+use Rattle.std.proofs.Common.{◌≡◌, ◌≢◌, ℕ, ◌+◌, ◌-◌, ◌<◌, ◌≤◌, true, false, Option, Some, None, List, [], length, slice_set, refl, ap, sym, subst, ◌∙◌, arith, ⊎_elim}
+use Rattle.std.specs.Prelude.{slice_index_or}
+use Rattle.std.proofs.lemmas.List.{length-set, get_or-set_same}
+use Rattle.kernel_tables.specs.declared.inode.Inode.{Inode}
+use Rattle.kernel_tables.specs.declared.inode.InodeKind.{InodeKind}
+use Rattle.kernel_tables.specs.declared.inode.InodeKind.TheVariants as kind
+use Rattle.kernel_tables.specs.declared.row.Row.TheVariants.{Used, Unspelled}
+use Rattle.kernel_tables.specs.Kernel.{Kernel, inode_at, memory_page}
+use Rattle.space_bank.specs.Bank.{BankGood}
+use Rattle.file_tables.specs.Roots.{ExchangesRoots}
+use Rattle.file_tables.specs.Rows.{InodesGood}
+use Rattle.kernel_forest.specs.Trees.{forest_of}
+use Rattle.unix_model.specs.FileCalls.{resized}
+use Rattle.unix_model.specs.Files.{Inode as Seen, File, with_inode}
+use Rattle.unix_model.specs.State.{Unix, with_files}
+use Rattle.unix_model.specs.Tables.{at, with_at}
+use Rattle.kernel_machine.specs.Contents.{file_in}
+use Rattle.kernel_machine.specs.Laws as machine_law
+use Rattle.kernel_machine.specs.Machine.{machine_of, inodes_of, descriptions_of, held}
+use Rattle.kernel_machine.specs.Standing.{Standing, page_owners}
+use Rattle.kernel_machine.specs.Trees.{IsRootOf}
+use Rattle.kernel_machine.specs.View.{view, inode_in, inode_by, stored, files_in, processes_in, process_in, memory_in, inodes_in, descriptions_in, file_memory}
+use Rattle.kernel_machine.proofs.MachineLaws.{inode_written}
+use Rattle.kernel_machine.proofs.SetLaws.{inode_set}
+use Rattle.kernel_machine.proofs.StandingLaws.{standing_with_words, standing_with_inode}
+use Rattle.file_domain.specs.Effects.{with_file, ChangesFile}
+use Rattle.file_domain.specs.Good.{IsFileAt}
+
+-- the tables with another number of promised pages, and with another row of an inode
+abbrev pub promising : Kernel → ℕ → Kernel
+promising kernel pages = record kernel { machine = record kernel.machine { promised = pages } }
+
+abbrev pub with_row : Kernel → ℕ → Inode → Kernel
+with_row kernel number row = record kernel { inodes = slice_set kernel.inodes number (Used row) }
+
+-- promised pages are no part of the flat state
+pub promise_unseen : (kernel : Kernel) (pages : ℕ) → view (machine_of (promising kernel pages)) ≡ view (machine_of kernel)
+unfolding view machine_of processes_in process_in memory_in inodes_in descriptions_in inode_in file_memory inodes_of descriptions_of
+promise_unseen kernel pages = refl
+
+pub promise_stands : (kernel : Kernel) (pages : ℕ) → BankGood (promising kernel pages) → Standing kernel → Standing (promising kernel pages)
+promise_stands kernel pages bank standing = standing_with_words kernel (promising kernel pages) kernel.machine.next_pid kernel.machine.position pages refl bank standing
+
+-- what a row of a file is seen as
+pub seen_row : (kernel : Kernel) (row : Inode) → row.kind ≡ kind.File → inode_in (machine_of kernel) row ≡ File (stored (machine_of kernel) row)
+unfolding inode_in
+seen_row kernel row is = ap (λ (k : InodeKind). let seen : Seen = inode_by (machine_of kernel) row k in seen) is
+
+-- a row of a file is written that keeps its root
+module _ (kernel : Kernel) (number : ℕ) (inode row : Inode) (all : length kernel.inodes ≡ 1024) (below : number < 1024) (file : IsFileAt kernel number inode) (is_file : row.kind ≡ kind.File) where
+  pub row_there : IsFileAt (with_row kernel number row) number row
+  row_there = record { there = get_or-set_same kernel.inodes number (Used row) Unspelled (omega arith); kind = is_file }
+
+  pub row_all : length (with_row kernel number row).inodes ≡ 1024
+  row_all = length-set kernel.inodes number (Used row) ∙ all
+
+  pub row_seen : view (machine_of (with_row kernel number row)) ≡ with_file (view (machine_of kernel)) number (stored (machine_of kernel) row)
+  unfolding view inodes_in descriptions_in
+  row_seen = inode_set kernel (with_row kernel number row) number row (omega arith) refl
+      ∙ ap (λ (seen : Seen). machine_with seen) (seen_row kernel row is_file)
+    where
+      machine_with : Seen → Unix
+      machine_with seen = with_files (view (machine_of kernel)) (with_inode (files_in (machine_of kernel)) number seen)
+
+  pub row_stands : row.root ≡ inode.root → ExchangesRoots kernel (with_row kernel number row) number (Used row) → InodesGood (with_row kernel number row).inodes
+      → IsRootOf (forest_of kernel) (memory_page kernel) (page_owners kernel) row kind.File → Standing kernel → Standing (with_row kernel number row)
+  row_stands same exchanges good root standing =
+      standing_with_inode kernel (with_row kernel number row) number inode row (omega arith) file.there refl exchanges good (is_file ∙ sym file.kind) same
+      (subst (IsRootOf (forest_of kernel) (memory_page kernel) (page_owners kernel) row) (sym is_file) root) standing
+
+  pub row_changes : row ≡ record inode { length = row.length; root = row.root } → ChangesFile kernel (with_row kernel number row) number inode row
+  unfolding machine_of
+  row_changes same = record {
+    row = same;
+    there = row_there.there;
+    state = inode_written kernel (with_row kernel number row) number (Used row) (omega arith) refl;
+  }

@@ -1,0 +1,8 @@
+//! Files: lists of bytes by the number of their inode, read, written and cut as the definitions say.
+#![tactic(auto)]
+
+mod growing;
+mod reading;
+mod writing;
+
+pub use reading::read_at;

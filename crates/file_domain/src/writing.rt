@@ -1,0 +1,47 @@
+//! Writing files.
+
+ghost use Rattle.std.specs.Prelude.{◌≡◌, ◌≢◌, ℕ, ◌+◌, ◌-◌, ◌*◌, ◌/◌, ◌%◌, ◌<◌, ◌≤◌, ◌^◌, length};
+ghost use Rattle.kn_base.specs.Memory.{Memory};
+ghost use Rattle.kernel_tables.specs.declared.inode.Inode.{Inode};
+ghost use Rattle.kernel_tables.specs.Kernel.{Kernel, kernel_of, Sized, IsSized, inode_count};
+ghost use Rattle.file_domain.specs.Good.{FilesGood, IsFileAt};
+ghost use Rattle.file_domain.specs.Effects.{PutsAt};
+
+use file_tables::{Inode, set_inode};
+use file_trees::put_piece;
+use kernel_tables::NodeOwner;
+use kn_base::{Key, NodeId, Store};
+use seg_tree::{Space, new_space};
+
+// Writes bytes that lie in one page into the tree that a file has.
+fn put_there<T: Store>(store: &mut T, file: u32, inode: Inode, at: u32, from: &[u8])
+    requires good { FilesGood (kernel_of (T.memory store.old)) }
+    requires number { file < inode_count }
+    requires file { IsFileAt (kernel_of (T.memory store.old)) file inode }
+    requires root { inode.root ≢ 0 }
+    requires some { 1 ≤ length from.now }
+    requires inside { at % 4096 + length from.now ≤ 4096 }
+    requires within { at + length from.now ≤ inode.length }
+    ensures put { PutsAt (kernel_of (T.memory store.old)) (kernel_of (T.memory store.new)) file at from.now }
+    ensures keeps { T.keeps store.old store.new }
+{
+    put_piece(store, Space(NodeId(inode.root)), at, from);
+}
+
+// Writes the first bytes of a file that has no tree: it gets one.
+fn put_first<T: Store>(store: &mut T, file: u32, inode: Inode, at: u32, from: &[u8])
+    requires good { FilesGood (kernel_of (T.memory store.old)) }
+    requires number { file < inode_count }
+    requires file { IsFileAt (kernel_of (T.memory store.old)) file inode }
+    requires root { inode.root ≡ 0 }
+    requires some { 1 ≤ length from.now }
+    requires inside { at % 4096 + length from.now ≤ 4096 }
+    requires within { at + length from.now ≤ inode.length }
+    ensures put { PutsAt (kernel_of (T.memory store.old)) (kernel_of (T.memory store.new)) file at from.now }
+    ensures keeps { T.keeps store.old store.new }
+{
+    let tree = new_space(store, NodeOwner::FileTree, Key::Null);
+    put_piece(store, tree, at, from);
+    let root = tree.0.0;
+    set_inode(store, file, Inode { root, ..inode });
+}
