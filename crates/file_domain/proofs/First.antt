@@ -180,6 +180,7 @@ module _ (k0 k1 : Kernel) (number root : ℕ) (inode : Inode) (good : FilesGood 
       buffers = λ page owned. bytes-apart k0 k2 rest02 rows02 apart02 page Buffer refl owned;
       pipes = λ page owned. bytes-apart k0 k2 rest02 rows02 apart02 page PipePage refl owned;
     }
+
     seen2 : view (machine_of k2) ≡ view (machine_of k0)
     unfolding machine_of
     seen2 = view_kept (machine_of k0) (machine_of k2) good.standing.holdings good.standing.roots kept
