@@ -1,21 +1,20 @@
 -- Pieces that are put one behind the other.
-use Rattle.std.proofs.Common.{◌≡◌, ◌≢◌, ℕ, ◌+◌, ◌-◌, ◌<◌, ◌≤◌, Option, Some, None, List, [], ◌++◌, length, get_or, length-append, refl, ap, sym, subst, ◌∙◌, arith, ⊎_elim}
+use Rattle.std.proofs.Common.{◌≡◌, ℕ, ◌+◌, ◌-◌, ◌<◌, ◌≤◌, Option, Some, List, [], ◌++◌, length, get_or, length-append, refl, ap, sym, ◌∙◌, arith, ⊎_elim}
 use Rattle.std.proofs.lemmas.Bool.{cases_lt}
 use Rattle.std.proofs.lemmas.Grind.{same_number_lists}
 use Rattle.std.proofs.lemmas.List.{get_or_append_left, get_or-append_right}
 use Rattle.kn_base.specs.Rows.{overwritten}
 use Rattle.kn_base.proofs.RowLaws.{length-overwritten, overwritten-none, get_or-overwritten_in, get_or-overwritten_below, get_or-overwritten_above}
 use Rattle.kernel_tables.specs.declared.inode.Inode.{Inode}
-use Rattle.kernel_tables.specs.declared.machine.Machine.{Machine as Words}
 use Rattle.kernel_tables.specs.declared.row.Row.TheVariants.{Used}
-use Rattle.kernel_tables.specs.Kernel.{Kernel, inode_at}
-use Rattle.unix_model.specs.Files.{Inode as Seen, File, file_bytes}
+use Rattle.kernel_tables.specs.Kernel.{Kernel}
+use Rattle.unix_model.specs.Files.{File, file_bytes}
 use Rattle.unix_model.specs.State.{Unix}
 use Rattle.unix_model.specs.Tables.{at, with_at}
 use Rattle.unix_model.proofs.TableLaws.{at-with_at, with_at-same, with_at-twice}
 use Rattle.kernel_machine.specs.Machine.{KernelMachine, machine_of, inodes_of}
 use Rattle.kernel_machine.specs.View.{view, stored}
-use Rattle.file_domain.specs.Effects.{with_file, ChangesFile, PutsAt}
+use Rattle.file_domain.specs.Effects.{with_file, PutsAt}
 use Rattle.file_domain.specs.Good.{FilesGood, IsFileAt}
 use Rattle.file_domain.proofs.Seen.{seen_file, there_file}
 
