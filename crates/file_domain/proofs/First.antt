@@ -1,5 +1,5 @@
 -- The first piece of a file that has no tree: a tree is added, the piece is put, and the row gets its root.
-use Rattle.std.proofs.Common.{◌≡◌, ◌≢◌, ℕ, zero, suc, ◌+◌, ◌-◌, ◌/◌, ◌%◌, ◌<◌, ◌≤◌, true, Option, Some, None, List, [], length, get_or, IsSome, refl, ap, sym, subst, ◌∙◌, arith, ⊎_elim}
+use Rattle.std.proofs.Common.{◌≡◌, ◌≢◌, ℕ, zero, suc, ◌+◌, ◌/◌, ◌%◌, ◌<◌, ◌≤◌, true, Option, Some, None, List, [], length, get_or, IsSome, refl, ap, sym, subst, ◌∙◌, arith}
 use Rattle.kn_base.specs.declared.key.Key.TheVariants.{Null}
 use Rattle.kn_base.specs.Rows.{overwritten}
 use Rattle.kn_base.proofs.RowLaws.{length-overwritten}
@@ -24,16 +24,16 @@ use Rattle.kernel_forest.specs.Releases.{KeepsUnreleased}
 use Rattle.kernel_forest.specs.Trees.{forest_of}
 use Rattle.seg_tree.specs.Promises.{Adds}
 use Rattle.seg_tree.proofs.Emptying.{unreleased_trans}
-use Rattle.unix_model.specs.Memory.{Memory, Page}
+use Rattle.unix_model.specs.Memory.{Memory}
 use Rattle.unix_model.specs.Room.{promised}
 use Rattle.unix_model.specs.Tables.{at, with_at, nothing}
 use Rattle.unix_model.proofs.TableLaws.{at-with_at}
-use Rattle.user_copy.specs.SpaceMemory.{memory_by, space_memory}
+use Rattle.user_copy.specs.SpaceMemory.{memory_by}
 use Rattle.domain.specs.Domains.{domain_at, roots_by}
 use Rattle.kernel_machine.specs.Contents.{file_in, mapped_bytes}
 use Rattle.kernel_machine.specs.Held.{AllWhole}
-use Rattle.kernel_machine.specs.Loose.{Loose, Nothing, Tree, StandingBut, root_of, word_of}
-use Rattle.kernel_machine.specs.Machine.{KernelMachine, machine_of, inodes_of}
+use Rattle.kernel_machine.specs.Loose.{Nothing, Tree, StandingBut, root_of, word_of}
+use Rattle.kernel_machine.specs.Machine.{KernelMachine, machine_of}
 use Rattle.kernel_machine.specs.Standing.{Standing, page_owners}
 use Rattle.kernel_machine.specs.Trees.{IsFileTree, IsRootOf}
 use Rattle.kernel_machine.specs.View.{view, stored, file_memory, memory_in}
@@ -44,14 +44,14 @@ use Rattle.kernel_machine.proofs.PagesHeld.{file-long}
 use Rattle.kernel_machine.proofs.RootStands.{standing_with_root}
 use Rattle.kernel_machine.proofs.SpacesStand.{standing_with_loose}
 use Rattle.file_trees.specs.FileMemory.{IsFileMemory}
-use Rattle.file_trees.specs.Pieces.{PutsInTree, MayBeWritten, with_piece}
+use Rattle.file_trees.specs.Pieces.{PutsInTree, MayBeWritten}
 use Rattle.file_trees.specs.Trees.{tree_memory, tree_page}
 use Rattle.file_trees.proofs.Contents.{WholeTree}
 use Rattle.file_trees.proofs.FileMemory.{file_put, memory_put, put_whole, zero_get}
 use Rattle.file_trees.proofs.FileTrees.{memory_to_tree}
 use Rattle.file_trees.proofs.Pages.{tree_is_space, zero_long}
 use Rattle.file_trees.proofs.Pieces.{space_some}
-use Rattle.file_domain.specs.Effects.{with_file, ChangesFile, PutsAt}
+use Rattle.file_domain.specs.Effects.{with_file, PutsAt}
 use Rattle.file_domain.specs.Good.{FilesGood, IsFileAt}
 use Rattle.file_domain.proofs.Keeping.{accounted_still, same_promise}
 use Rattle.file_domain.proofs.Kept.{KeepsMemories, view_kept}
@@ -180,6 +180,7 @@ module _ (k0 k1 : Kernel) (number root : ℕ) (inode : Inode) (good : FilesGood 
       buffers = λ page owned. bytes-apart k0 k2 rest02 rows02 apart02 page Buffer refl owned;
       pipes = λ page owned. bytes-apart k0 k2 rest02 rows02 apart02 page PipePage refl owned;
     }
+
     seen2 : view (machine_of k2) ≡ view (machine_of k0)
     unfolding machine_of
     seen2 = view_kept (machine_of k0) (machine_of k2) good.standing.holdings good.standing.roots kept

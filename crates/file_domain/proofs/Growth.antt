@@ -1,5 +1,5 @@
 -- A file gets longer: its promise and its row are written.
-use Rattle.std.proofs.Common.{◌≡◌, ◌≢◌, ℕ, zero, suc, ◌+◌, ◌-◌, ◌<◌, ◌≤◌, true, false, nat_le, Option, Some, None, List, [], length, get_or, ◌/◌, ◌%◌, refl, ap, sym, subst, ◌∙◌, arith, ⊎_elim}
+use Rattle.std.proofs.Common.{◌≡◌, ℕ, zero, suc, ◌+◌, ◌-◌, ◌<◌, ◌≤◌, true, Some, None, List, length, get_or, ◌/◌, ◌%◌, refl, ap, sym, subst, ◌∙◌, arith, ⊎_elim}
 use Rattle.std.proofs.lemmas.Bool.{cases_eq, le-leb, lt-leb}
 use Rattle.kernel_tables.specs.declared.inode.Inode.{Inode}
 use Rattle.kernel_tables.specs.declared.inode.InodeKind.TheVariants as kind
@@ -8,18 +8,17 @@ use Rattle.kernel_tables.specs.Kernel.{Kernel, memory_page}
 use Rattle.space_bank.specs.Bank.{BankGood}
 use Rattle.file_tables.specs.Roots.{ExchangesRoots}
 use Rattle.file_tables.specs.Rows.{InodesGood}
-use Rattle.forest.specs.Forest.{IsSpace}
 use Rattle.kernel_forest.specs.Trees.{forest_of}
 use Rattle.unix_model.specs.FileCalls.{resized}
-use Rattle.unix_model.specs.Memory.{Memory, Page}
+use Rattle.unix_model.specs.Memory.{Memory}
 use Rattle.unix_model.specs.Numbers.{pages_of}
 use Rattle.unix_model.specs.Room.{promised, has_room}
 use Rattle.unix_model.specs.Tables.{at, nothing, with_at}
 use Rattle.user_copy.specs.SpaceMemory.{page_of}
-use Rattle.kernel_machine.specs.Contents.{file_in, mapped_bytes}
-use Rattle.kernel_machine.specs.Machine.{machine_of, inodes_of, descriptions_of, page_owner_of, room_of, held}
+use Rattle.kernel_machine.specs.Contents.{file_in}
+use Rattle.kernel_machine.specs.Machine.{machine_of, inodes_of, descriptions_of}
 use Rattle.kernel_machine.specs.Standing.{Standing, page_owners}
-use Rattle.kernel_machine.specs.Trees.{IsRootOf, IsFileTree}
+use Rattle.kernel_machine.specs.Trees.{IsRootOf}
 use Rattle.kernel_machine.specs.View.{view, stored, file_memory, memory_in}
 use Rattle.kernel_machine.proofs.MachineLaws.{inode_written}
 use Rattle.kernel_machine.proofs.PagesHeld.{file-long}
@@ -29,7 +28,7 @@ use Rattle.file_trees.proofs.Contents.{WholeTree}
 use Rattle.file_trees.proofs.FileMemory.{file_grown, memory_grown, zero_get}
 use Rattle.file_trees.proofs.FileTrees.{tree_to_memory, memory_to_tree, there_found}
 use Rattle.file_trees.proofs.Pages.{page_absent}
-use Rattle.file_domain.specs.Effects.{with_file, ChangesFile, Resizes, NoRoom}
+use Rattle.file_domain.specs.Effects.{with_file, Resizes, NoRoom}
 use Rattle.file_domain.specs.Good.{FilesGood, IsFileAt}
 use Rattle.file_domain.proofs.Keeping.{accounted_still, promised_file}
 use Rattle.file_domain.proofs.Rows.{promising, with_row, promise_unseen, promise_stands, row_there, row_all, row_seen, row_stands}

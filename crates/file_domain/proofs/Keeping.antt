@@ -1,6 +1,5 @@
 -- What calls on files keep: what is taken stays accounted for, and how much the flat state promises.
-use Rattle.std.proofs.Common.{◌≡◌, ◌≢◌, ℕ, ◌+◌, ◌-◌, ◌<◌, ◌≤◌, true, false, nat_le, Option, Some, None, List, [], length, refl, ap, sym, subst, ◌∙◌, arith}
-use Rattle.std.proofs.lemmas.Bool.{le-leb, lt-leb}
+use Rattle.std.proofs.Common.{◌≡◌, ◌≢◌, ℕ, ◌+◌, ◌<◌, Option, Some, List, length, ap, arith}
 use Rattle.std.proofs.lemmas.List.{get_or_past}
 use Rattle.kernel_tables.specs.declared.inode.Inode.{Inode}
 use Rattle.kernel_tables.specs.declared.inode.InodeKind.{InodeKind}
@@ -12,7 +11,7 @@ use Rattle.forest.specs.Forest.{Forest}
 use Rattle.kernel_tables.specs.declared.entry.PageOwner.{PageOwner}
 use Rattle.unix_model.specs.Files.{File, inode_pages}
 use Rattle.unix_model.specs.Numbers.{pages_of}
-use Rattle.unix_model.specs.Room.{promised, has_room}
+use Rattle.unix_model.specs.Room.{promised}
 use Rattle.unix_model.specs.Rules.{EndsAt}
 use Rattle.unix_model.specs.State.{Unix}
 use Rattle.unix_model.specs.Tables.{at}

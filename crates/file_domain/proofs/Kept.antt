@@ -1,5 +1,5 @@
 -- A tree that no inode has yet is no part of the flat state.
-use Rattle.std.proofs.Common.{◌≡◌, ◌≢◌, ℕ, Option, Some, None, List, [], refl, ap, ap₂, sym, ◌∙◌}
+use Rattle.std.proofs.Common.{◌≡◌, ℕ, Option, Some, None, [], refl, ap, ap₂, sym, ◌∙◌}
 use Rattle.std.proofs.Math.Path.{fun_ext}
 use Rattle.std.specs.Prelude.{option_map}
 use Rattle.kernel_tables.specs.declared.entry.PageOwner.TheVariants.{Buffer, Pipe as PipePage}
@@ -11,7 +11,7 @@ use Rattle.unix_model.specs.Tables.{at}
 use Rattle.forest.specs.Forest.{IsSpace}
 use Rattle.kernel_machine.specs.Machine.{KernelMachine}
 use Rattle.kernel_machine.specs.Processes.{HoldingsGood}
-use Rattle.kernel_machine.specs.Trees.{HasTree, RootsGood}
+use Rattle.kernel_machine.specs.Trees.{RootsGood}
 use Rattle.kernel_machine.specs.View.{view, memory_in, process_in, processes_in, inode_in, inodes_in, descriptions_in}
 use Rattle.kernel_machine.proofs.MemoryLaws.{made-same, process-kept, inode-kept, tree-of, page-of}
 

@@ -7,3 +7,4 @@ pub mod Views
 pub mod Puts
 pub mod Kept
 pub mod First
+pub mod Chains

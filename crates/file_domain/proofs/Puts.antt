@@ -1,5 +1,5 @@
 -- A piece is put into a file whose tree is there.
-use Rattle.std.proofs.Common.{◌≡◌, ◌≢◌, ℕ, ◌+◌, ◌-◌, ◌/◌, ◌%◌, ◌<◌, ◌≤◌, true, Option, Some, None, List, [], length, refl, ap, sym, subst, ◌∙◌, arith, ⊎_elim}
+use Rattle.std.proofs.Common.{◌≡◌, ◌≢◌, ℕ, ◌+◌, ◌/◌, ◌%◌, ◌<◌, ◌≤◌, true, Some, List, length, refl, ap, sym, subst, ◌∙◌, arith}
 use Rattle.kn_base.specs.Rows.{overwritten}
 use Rattle.kernel_tables.specs.declared.inode.Inode.{Inode}
 use Rattle.kernel_tables.specs.declared.inode.InodeKind.{InodeKind}
@@ -8,13 +8,12 @@ use Rattle.kernel_tables.specs.declared.row.Row.{Row}
 use Rattle.kernel_tables.specs.Kernel.{Kernel, memory_page, inode_at}
 use Rattle.space_bank.specs.Bank.{BankGood}
 use Rattle.forest.specs.Calls.{IsOwn}
-use Rattle.forest.specs.Forest.{IsSpace}
 use Rattle.forest.specs.Walks.{Mapping}
 use Rattle.kn_base.proofs.RowLaws.{length-overwritten}
 use Rattle.kernel_forest.specs.Trees.{forest_of}
 use Rattle.kernel_tables.specs.Rows.{of_domain, is_fixed}
 use Rattle.kernel_forest.proofs.RowLaws.{domains_apart, fixed_apart}
-use Rattle.unix_model.specs.Memory.{Memory, Page}
+use Rattle.unix_model.specs.Memory.{Memory}
 use Rattle.unix_model.specs.Room.{promised}
 use Rattle.unix_model.specs.State.{Unix, with_files}
 use Rattle.unix_model.specs.Files.{File, with_inode}
@@ -29,16 +28,16 @@ use Rattle.kernel_machine.specs.Standing.{Standing}
 use Rattle.kernel_machine.specs.Trees.{HasTree, IsFileTree}
 use Rattle.kernel_machine.proofs.NodeBounds.{nodes_accounted}
 use Rattle.kernel_machine.proofs.PagesHeld.{file-long}
-use Rattle.kernel_machine.specs.View.{view, inodes_in, descriptions_in, files_in, stored, inode_in, file_memory}
+use Rattle.kernel_machine.specs.View.{view, inodes_in, descriptions_in, files_in, stored, inode_in}
 use Rattle.kernel_machine.proofs.MemoryLaws.{tree_changed}
 use Rattle.kernel_machine.proofs.SpacesStand.{standing_with_tree}
 use Rattle.file_trees.specs.FileMemory.{IsFileMemory}
-use Rattle.file_trees.specs.Pieces.{PutsInTree, MayBeWritten, with_piece}
+use Rattle.file_trees.specs.Pieces.{PutsInTree, MayBeWritten}
 use Rattle.file_trees.specs.Trees.{tree_memory, tree_page}
 use Rattle.file_trees.proofs.Contents.{WholeTree}
 use Rattle.file_trees.proofs.FileMemory.{file_put, memory_put, put_whole}
 use Rattle.file_trees.proofs.FileTrees.{memory_to_tree}
-use Rattle.file_domain.specs.Effects.{with_file, ChangesFile, PutsAt}
+use Rattle.file_domain.specs.Effects.{with_file, PutsAt}
 use Rattle.file_domain.specs.Good.{FilesGood, IsFileAt}
 use Rattle.file_domain.proofs.Growth.{memory_of_file}
 use Rattle.file_domain.proofs.Keeping.{accounted_still, promised_file}

@@ -1,23 +1,18 @@
 -- The promise of a file and its row are written: what stands then, and what is seen.
-use Rattle.std.proofs.Common.{◌≡◌, ◌≢◌, ℕ, ◌+◌, ◌-◌, ◌<◌, ◌≤◌, true, false, Option, Some, None, List, [], length, slice_set, refl, ap, sym, subst, ◌∙◌, arith, ⊎_elim}
-use Rattle.std.specs.Prelude.{slice_index_or}
+use Rattle.std.proofs.Common.{◌≡◌, ℕ, ◌<◌, length, slice_set, refl, ap, sym, subst, ◌∙◌, arith}
 use Rattle.std.proofs.lemmas.List.{length-set, get_or-set_same}
 use Rattle.kernel_tables.specs.declared.inode.Inode.{Inode}
 use Rattle.kernel_tables.specs.declared.inode.InodeKind.{InodeKind}
 use Rattle.kernel_tables.specs.declared.inode.InodeKind.TheVariants as kind
 use Rattle.kernel_tables.specs.declared.row.Row.TheVariants.{Used, Unspelled}
-use Rattle.kernel_tables.specs.Kernel.{Kernel, inode_at, memory_page}
+use Rattle.kernel_tables.specs.Kernel.{Kernel, memory_page}
 use Rattle.space_bank.specs.Bank.{BankGood}
 use Rattle.file_tables.specs.Roots.{ExchangesRoots}
 use Rattle.file_tables.specs.Rows.{InodesGood}
 use Rattle.kernel_forest.specs.Trees.{forest_of}
-use Rattle.unix_model.specs.FileCalls.{resized}
 use Rattle.unix_model.specs.Files.{Inode as Seen, File, with_inode}
 use Rattle.unix_model.specs.State.{Unix, with_files}
-use Rattle.unix_model.specs.Tables.{at, with_at}
-use Rattle.kernel_machine.specs.Contents.{file_in}
-use Rattle.kernel_machine.specs.Laws as machine_law
-use Rattle.kernel_machine.specs.Machine.{machine_of, inodes_of, descriptions_of, held}
+use Rattle.kernel_machine.specs.Machine.{machine_of, inodes_of, descriptions_of}
 use Rattle.kernel_machine.specs.Standing.{Standing, page_owners}
 use Rattle.kernel_machine.specs.Trees.{IsRootOf}
 use Rattle.kernel_machine.specs.View.{view, inode_in, inode_by, stored, files_in, processes_in, process_in, memory_in, inodes_in, descriptions_in, file_memory}

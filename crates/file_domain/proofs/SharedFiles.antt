@@ -1,31 +1,29 @@
 -- Where a page of a file is no page of its own, fewer pages are taken than are promised.
-use Rattle.std.proofs.Common.{◌≡◌, ◌≢◌, ℕ, ◌+◌, ◌*◌, ◌/◌, ◌%◌, ◌^◌, ◌<◌, ◌≤◌, Bool, true, false, not, Option, Some, None, List, [], length, arith, refl, sym, ap, subst, ◌∙◌, ◌||◌, ◌&&◌, ◌==◌, if◌then◌else◌, ⊎_elim}
+use Rattle.std.proofs.Common.{◌≡◌, ◌≢◌, ℕ, ◌+◌, ◌*◌, ◌/◌, ◌%◌, ◌^◌, ◌<◌, ◌≤◌, Bool, true, false, not, Option, Some, None, [], length, arith, refl, sym, ap, subst, ◌∙◌, ◌||◌, ◌&&◌, ◌==◌, if◌then◌else◌, ⊎_elim}
 use Rattle.std.proofs.Math.Path.{fun_ext}
-use Rattle.std.specs.Option.{is_some}
 use Rattle.std.specs.Prelude.{option_map}
-use Rattle.std.proofs.lemmas.Bool.{cases_Bool, cases_eq, cases_lt, eq-eqb, ne_eqb, eqb-true, or_left, or_right}
+use Rattle.std.proofs.lemmas.Bool.{cases_Bool, cases_eq, cases_lt, eq-eqb, ne_eqb, eqb-true, or_right}
 use Rattle.kn_base.specs.declared.key.Key.{Key}
 use Rattle.kn_base.specs.declared.key.Key.TheVariants.{Null}
 use Rattle.kernel_tables.specs.declared.inode.Inode.{Inode}
 use Rattle.kernel_tables.specs.declared.inode.InodeKind.{InodeKind}
 use Rattle.kernel_tables.specs.declared.inode.InodeKind.TheVariants.{File, Dir, Pipe, Console}
 use Rattle.kernel_tables.specs.Kernel.{Kernel, first_page, inode_at}
-use Rattle.kernel_tables.specs.Rows.{entry_at, fixed_rows}
+use Rattle.kernel_tables.specs.Rows.{entry_at}
 use Rattle.kernel_forest.specs.Trees.{forest_of, owner_of}
 use Rattle.kernel_tables.specs.declared.entry.Entry.TheVariants.{Fixed}
 use Rattle.forest.specs.Calls.{IsOwn}
 use Rattle.forest.specs.Forest.{Forest, IsSpace, Sound}
 use Rattle.forest.specs.Labels.{page_number, shared_page}
-use Rattle.forest.specs.Objects.{PageObject, NodeObject, Owner, OfProcess, OfFile}
+use Rattle.forest.specs.Objects.{PageObject, NodeObject, OfFile}
 use Rattle.forest.specs.Walks.{Mapping, map_of, mapping_of, key_at_page, key_below, page_way, digits, place_of}
 use Rattle.forest.proofs.OwnLaws.{found_at, mapped_named, way_of_page}
 use Rattle.forest.proofs.ReachLaws.{way_owner, map_inside}
 use Rattle.user_copy.proofs.Pages.{map_far}
 use Rattle.unix_model.specs.Files.{inode_pages}
 use Rattle.unix_model.specs.Numbers.{pages_of}
-use Rattle.unix_model.specs.Room.{process_pages, promised}
+use Rattle.unix_model.specs.Room.{promised}
 use Rattle.unix_model.specs.Tables.{at, any_below, count_below, sum_below}
-use Rattle.domain.specs.Domains.{domains, roots_by}
 use Rattle.kernel_machine.specs.Contents.{mapped_bytes}
 use Rattle.kernel_machine.specs.Machine.{KernelMachine, machine_of, inodes_of, held}
 use Rattle.kernel_machine.specs.Trees.{HasTree}

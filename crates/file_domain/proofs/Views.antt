@@ -1,12 +1,12 @@
 -- A call on the tree of a file: what of the machine it changes.
-use Rattle.std.proofs.Common.{◌≡◌, ◌≢◌, ℕ, ◌+◌, ◌-◌, ◌/◌, ◌<◌, ◌≤◌, false, nat_lt, true, Option, Some, None, List, [], refl, ap, ap₂, sym, subst, ◌∙◌, arith, ⊎_elim}
+use Rattle.std.proofs.Common.{◌≡◌, ◌≢◌, ℕ, ◌-◌, false, nat_lt, true, Some, None, refl, ap, ◌∙◌, arith, ⊎_elim}
 use Rattle.std.proofs.lemmas.Bool.{cases_Bool, ne_eqb}
 use Rattle.kernel_tables.specs.declared.entry.Entry.{Entry}
 use Rattle.kernel_tables.specs.declared.entry.Entry.TheVariants.{Free, Taken, Fixed, Unspelled}
 use Rattle.kernel_tables.specs.declared.entry.PageOwner.{PageOwner}
 use Rattle.kernel_tables.specs.declared.entry.PageOwner.TheVariants.{Buffer, Pipe as PipePage}
 use Rattle.kernel_tables.specs.declared.machine.Machine.{Machine as Words}
-use Rattle.kernel_tables.specs.Kernel.{Kernel, first_page, memory_page, bank_page}
+use Rattle.kernel_tables.specs.Kernel.{Kernel, first_page, memory_page}
 use Rattle.kernel_tables.specs.Rows.{entry_at, KeepsRows}
 use Rattle.kernel_forest.specs.Apart.{KeepsApart}
 use Rattle.kernel_forest.specs.Releases.{KeepsUnreleased}

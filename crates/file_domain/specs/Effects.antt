@@ -1,5 +1,5 @@
 -- What calls on files do, in the words of the definitions.
-use Rattle.std.specs.Prelude.{◌≡◌, ◌≢◌, ℕ, ◌+◌, ◌-◌, ◌++◌, Option, Some, Result, Ok, Err, true, false, List, length, take, drop, nat_lt}
+use Rattle.std.specs.Prelude.{◌≡◌, ℕ, ◌++◌, Some, Result, Ok, Err, true, false, List, length, take, drop, nat_lt}
 use Rattle.kn_base.specs.Rows.{overwritten as put_over}
 use Rattle.kernel_tables.specs.declared.inode.Inode.{Inode}
 use Rattle.kernel_tables.specs.declared.row.Row.TheVariants.{Used}

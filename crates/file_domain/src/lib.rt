@@ -5,4 +5,6 @@ mod growing;
 mod reading;
 mod writing;
 
+pub use growing::grow;
 pub use reading::read_at;
+pub use writing::put_all;

@@ -1,14 +1,13 @@
 -- Pages are taken out of a tree, and bytes are made zero.
-use Rattle.std.proofs.Common.{◌≡◌, ◌≢◌, ℕ, ◌+◌, ◌-◌, ◌/◌, ◌%◌, ◌<◌, ◌≤◌, true, Option, Some, None, List, [], ◌++◌, length, take, drop, replicate, slice_index_or, refl, ap, sym, subst, ◌∙◌, arith, ⊎_elim, append_assoc}
+use Rattle.std.proofs.Common.{◌≡◌, ◌≢◌, ℕ, ◌+◌, ◌/◌, ◌%◌, ◌<◌, ◌≤◌, true, Option, Some, None, List, [], ◌++◌, length, take, drop, replicate, refl, ap, sym, subst, ◌∙◌, arith, ⊎_elim, append_assoc}
 use Rattle.std.proofs.Math.Path.{fun_ext}
 use Rattle.std.specs.Prelude.{option_map}
 use Rattle.std.proofs.lemmas.Bool.{cases_eq, cases_lt, eq-eqb, ne_eqb, lt-ltb, le-ltb, le-leb, lt-leb}
 use Rattle.std.proofs.lemmas.List.{length-replicate, take-append-drop}
 use Rattle.std.proofs.Math.Seq.{drop-drop}
-use Rattle.kn_base.specs.Memory.{Memory as Store, zero_page, page_at}
+use Rattle.kn_base.specs.Memory.{zero_page}
 use Rattle.kn_base.specs.Rows.{overwritten, part_at}
-use Rattle.kernel_tables.specs.Kernel.{Kernel, kernel_of, first_page, IsBankPage, memory_page}
-use Rattle.kernel_tables.proofs.Sizes.{length-bank_page}
+use Rattle.kernel_tables.specs.Kernel.{Kernel, IsBankPage, memory_page}
 use Rattle.space_bank.specs.Bank.{BankGood}
 use Rattle.space_bank.specs.Shares.{Outside}
 use Rattle.unix_model.specs.Memory.{Memory, Page, all_writable}
@@ -27,7 +26,6 @@ use Rattle.user_copy.proofs.Across.{own_turn, one_counted, touched_one}
 use Rattle.user_copy.proofs.Bytes.{bytes_put, all_may}
 use Rattle.user_copy.proofs.Pages.{found_owned, memory_found, memory_none}
 use Rattle.user_copy.proofs.Tests.{writable_found}
-use Rattle.kernel_machine.specs.Held.{AllWhole}
 use Rattle.kernel_machine.proofs.MemoryLaws.{made-same}
 use Rattle.kernel_machine.proofs.SpacesStand.{replace_leaves, put_leaves}
 use Rattle.file_trees.specs.Trees.{tree_memory}
@@ -186,13 +184,3 @@ module _ (kernel : Kernel) (tree place count : ℕ) (good : BankGood kernel) (is
               ∙ ap (λ (m : Memory). with_at m (place / 4096) (Some (cleared (place % 4096) count (page_of (memory_page kernel) found)))) (sym (tree_is_space kernel tree (space_some kernel tree good is)))
               ∙ sym (ap (λ page. with_at memory (place / 4096) (option_map (cleared (place % 4096) count) page)) (there found e));
         }
-
--- ---- bytes of the pages of a store
-
-pub all_whole : (memory : Store) → BankGood (kernel_of memory) → ((n : ℕ) → n < length memory.pages → length (page_at memory n) ≡ 4096) → AllWhole (kernel_of memory).bank
-all_whole memory good lengths page below =
-    let pages = good.pages.pages in
-    let first = first_page (kernel_of memory).size in
-    let back : first + page - first ≡ page = omega arith in
-    ap (λ n. length (slice_index_or (kernel_of memory).bank n [])) (sym back)
-    ∙ length-bank_page memory (first + page) good.sized (record { low = omega arith; high = omega arith }) lengths

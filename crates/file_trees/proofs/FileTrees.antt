@@ -1,5 +1,5 @@
 -- The tree of a file, by its memory.
-use Rattle.std.proofs.Common.{◌≡◌, ◌≢◌, ℕ, zero, suc, ◌+◌, ◌-◌, ◌*◌, ◌/◌, ◌%◌, ◌<◌, ◌≤◌, ◌&&◌, ◌==◌, Bool, true, false, Option, Some, None, List, [], ◌∷◌, length, drop, length-drop, get_or, refl, ap, sym, subst, ◌∙◌, arith, ⊎_elim}
+use Rattle.std.proofs.Common.{◌≡◌, ◌≢◌, ℕ, zero, suc, ◌+◌, ◌-◌, ◌*◌, ◌/◌, ◌%◌, ◌<◌, ◌≤◌, ◌&&◌, ◌==◌, Bool, true, false, Option, Some, None, List, [], ◌∷◌, length, drop, length-drop, get_or, refl, ap, sym, ◌∙◌, arith, ⊎_elim}
 use Rattle.std.specs.List.{list_all}
 use Rattle.std.specs.Prelude.{option_map}
 use Rattle.std.proofs.lemmas.Bool.{cases_lt, eqb-true, eq-eqb}
@@ -10,12 +10,12 @@ use Rattle.unix_model.specs.Numbers.{pages_of}
 use Rattle.unix_model.specs.Tables.{at}
 use Rattle.forest.specs.Walks.{Mapping, map_of}
 use Rattle.kernel_forest.specs.Trees.{forest_of}
-use Rattle.user_copy.specs.SpaceMemory.{memory_by, page_of, space_memory}
+use Rattle.user_copy.specs.SpaceMemory.{page_of, space_memory}
 use Rattle.user_copy.proofs.Pages.{memory_is, memory_found}
 use Rattle.kernel_machine.specs.Contents.{pages_in, mapped_bytes}
 use Rattle.kernel_machine.specs.Trees.{IsFileTree, ends_in_zeros}
 use Rattle.kernel_machine.proofs.PagesHeld.{pages-long}
-use Rattle.file_trees.specs.Trees.{tree_memory, tree_page}
+use Rattle.file_trees.specs.Trees.{tree_memory}
 use Rattle.file_trees.specs.FileMemory.{byte_in, IsFileMemory}
 use Rattle.file_trees.proofs.Contents.{WholeTree, pages_get}
 use Rattle.file_trees.proofs.FileMemory.{zero_get}

@@ -1,7 +1,7 @@
-use Rattle.std.proofs.Common.{◌≡◌, ◌+◌, ◌/◌, ◌<◌, ap, arith}
+use Rattle.std.proofs.Common.{◌/◌, ap, arith}
 use Rattle.kernel_tables.specs.Kernel.{Kernel, kernel_of}
 use Rattle.kernel_tables.proofs.Sizes.{length-inodes}
-use Rattle.file_trees.proofs.Cuts.{all_whole}
+use Rattle.kernel_machine.proofs.OwnerLaws.{store_is_whole}
 use Rattle.file_domain.proofs.First.{is1, puts_first_by}
 use Rattle.file_domain.proofs.Puts.{nodes_left, page_left}
 use Rattle.file_domain.proofs.Seen.{file_row, rooted_row}
@@ -47,7 +47,7 @@ returns-clause-put g c =
     puts_first_by (kernel_of (g.T.Store.memory c.args.store.now)) (kernel_of (g.T.Store.memory c.new_space-tree.new.store)) c.args.file c.new_space-tree.result.0.0 c.args.inode c.requires.good c.requires.file
     c.requires.root c.new_space-tree.ensures.added c.new_space-tree.ensures.good (kernel_of (g.T.Store.memory c.put_piece.new.store)) c.args.at c.args.from.now c.requires.number
     (length-inodes (g.T.Store.memory c.args.store.now) c.requires.good.standing.bank.sized) c.requires.some c.requires.inside c.requires.within c.put_piece.ensures.put c.put_piece.ensures.good
-    (all_whole (g.T.Store.memory c.put_piece.new.store) c.put_piece.ensures.good (g.met.T.Store.page_length c.put_piece.new.store))
+    (store_is_whole (g.T.Store.memory c.put_piece.new.store) c.put_piece.ensures.good (g.met.T.Store.page_length c.put_piece.new.store))
     (kernel_of (g.T.Store.memory c.set_inode.new.store)) c.set_inode.ensures.written c.set_inode.ensures.roots c.set_inode.ensures.good
 
 pub returns-clause-keeps : goal.returns-clause-keeps

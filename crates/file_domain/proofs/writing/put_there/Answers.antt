@@ -1,7 +1,7 @@
-use Rattle.std.proofs.Common.{◌≡◌, ◌+◌, ◌/◌, ◌<◌, arith}
+use Rattle.std.proofs.Common.{◌/◌, arith}
 use Rattle.kernel_tables.specs.Kernel.{kernel_of}
 use Rattle.kernel_tables.proofs.Sizes.{length-memory_page, length-inodes}
-use Rattle.file_trees.proofs.Cuts.{all_whole}
+use Rattle.kernel_machine.proofs.OwnerLaws.{store_is_whole}
 use Rattle.file_trees.proofs.Pages.{tree_whole}
 use Rattle.file_domain.proofs.Puts.{nodes_left, page_left, may_write, puts_at}
 use Rattle.file_domain.proofs.Seen.{file_tree, file_row}
@@ -46,4 +46,4 @@ returns-clause-put g c =
     (record { whole = λ page which. length-memory_page (g.T.Store.memory c.args.store.now) page standing.bank.sized which (g.met.T.Store.page_length c.args.store.now) }) in
     puts_at old (kernel_of (g.T.Store.memory c.put_piece.new.store)) c.args.file c.args.at c.args.from.now c.args.inode c.requires.good c.requires.number c.requires.file whole
     (length-inodes (g.T.Store.memory c.args.store.now) standing.bank.sized) c.requires.root c.requires.some c.requires.inside c.requires.within c.put_piece.ensures.put c.put_piece.ensures.good
-    (all_whole (g.T.Store.memory c.put_piece.new.store) c.put_piece.ensures.good (g.met.T.Store.page_length c.put_piece.new.store))
+    (store_is_whole (g.T.Store.memory c.put_piece.new.store) c.put_piece.ensures.good (g.met.T.Store.page_length c.put_piece.new.store))

@@ -1,7 +1,8 @@
 use Rattle.std.proofs.Common.{◌≡◌, subst, arith}
 use Rattle.kernel_tables.specs.Kernel.{kernel_of}
 use Rattle.file_trees.specs.Cuts.{CutsTree}
-use Rattle.file_trees.proofs.Cuts.{all_whole, cuts_first, cuts_more}
+use Rattle.kernel_machine.proofs.OwnerLaws.{store_is_whole}
+use Rattle.file_trees.proofs.Cuts.{cuts_first, cuts_more}
 use Rattle.file_trees.proofs.cutting.cut_pages.Goals as goal
 
 pub loop-page-init : goal.loop-page-init
@@ -25,7 +26,7 @@ cut_page-requires-clause-space g c = (c.loop-page.invariant.cut.leaves.spaces c.
 pub cut_page-requires-clause-room : goal.cut_page-requires-clause-room
 cut_page-requires-clause-room g c =
     c.requires.room (kernel_of (g.T.Store.memory c.loop-page.store)) c.loop-page.page c.loop-page.invariant.cut c.loop-page.invariant.good
-    (all_whole (g.T.Store.memory c.loop-page.store) c.loop-page.invariant.good (g.met.T.Store.page_length c.loop-page.store))
+    (store_is_whole (g.T.Store.memory c.loop-page.store) c.loop-page.invariant.good (g.met.T.Store.page_length c.loop-page.store))
 
 pub loop-page-preserved : goal.loop-page-preserved
 loop-page-preserved g c =
