@@ -1,15 +1,11 @@
 -- What calls on files do, in the words of the definitions.
-use Rattle.std.specs.Prelude.{◌≡◌, ℕ, ◌++◌, Some, Result, Ok, Err, true, false, List, length, take, drop, nat_lt}
+use Rattle.std.specs.Prelude.{◌≡◌, ℕ, ◌++◌, Some, true, false, List, length, take, drop}
 use Rattle.kn_base.specs.Rows.{overwritten as put_over}
 use Rattle.kernel_tables.specs.declared.inode.Inode.{Inode}
 use Rattle.kernel_tables.specs.declared.row.Row.TheVariants.{Used}
 use Rattle.kernel_tables.specs.Kernel.{Kernel, inode_at}
-use Rattle.unix_model.specs.declared.calls.Errno.{Errno}
-use Rattle.unix_model.specs.declared.calls.Errno.TheVariants.{Efbig, Enospc}
 use Rattle.unix_model.specs.FileCalls.{resized}
 use Rattle.unix_model.specs.Files.{File, with_inode}
-use Rattle.unix_model.specs.Limits.{most_file_bytes}
-use Rattle.unix_model.specs.Refusals.{◌>>◌, refuse◌when◌, refuse◌where_not◌}
 use Rattle.unix_model.specs.Room.{has_room}
 use Rattle.unix_model.specs.State.{Unix, with_files}
 use Rattle.unix_model.specs.Tables.{with_at}
@@ -25,18 +21,6 @@ pub record Reads (bytes : List ℕ) (place : ℕ) (old new : List ℕ) (count : 
 -- the flat state with other bytes in the file of a number
 abbrev pub with_file : Unix → ℕ → List ℕ → Unix
 with_file unix number bytes = with_files unix (with_inode unix.files number (File bytes))
-
--- a file is cut to a length, or gets zeros up to it (POSIX.1 ftruncate(2))
-abbrev pub truncated : Unix → ℕ → List ℕ → ℕ → Result Unix Errno
-truncated unix number bytes size = do
-  refuse Efbig when nat_lt most_file_bytes size
-  refuse Enospc where_not has_room (with_file unix number (resized bytes size))
-  Ok (with_file unix number (resized bytes size))
-
--- the state that a call leaves, or its refusal
-abbrev pub leaves : {X : Type 0} → Result X Errno → Unix → Result Unix Errno
-leaves (Ok x) unix = Ok unix
-leaves (Err errno) unix = Err errno
 
 -- Of the machine one file is another one: its length and its root, trees with the bytes of pages and who owns these, and how much of the bank
 -- is promised and taken.
