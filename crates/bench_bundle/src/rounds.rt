@@ -47,7 +47,8 @@ pub fn bundle_of_files(alloc: Global) -> Result<Vec<u8>, AllocError> {
     Ok(bytes)
 }
 
-/// How many lines a text has; None where memory ran out or a line is too long.
+/// How many lines a bundle has, up to its line `end`, which each line is compared with; None where memory ran out, a line is too
+/// long, or there is no such line.
 pub fn lines_of(alloc: Global, text: &[u8]) -> Option<u32> {
     let bytes = match Vec::from_slice(alloc, text) {
         Ok(bytes) => bytes,
@@ -58,8 +59,12 @@ pub fn lines_of(alloc: Global, text: &[u8]) -> Option<u32> {
     let mut line = ArrayVec::new();
     'reading: while reader.line() < 1_000_000 {
         match reader.next_line(&mut source, &mut line) {
-            Ok(true) => {}
-            Ok(false) => return Some(reader.line()),
+            Ok(true) => {
+                if line.as_slice() == b"end".as_slice() {
+                    return Some(reader.line());
+                }
+            }
+            Ok(false) => return None,
             Err(_) => return None,
         }
     }
