@@ -1,5 +1,5 @@
 -- What a pipe that was made leaves.
-use Rattle.std.proofs.Common.{◌≡◌, ℕ, ◌+◌, ◌-◌, ◌<◌, ◌≤◌, Bool, true, false, ⊎_elim, Some, List, [], length, slice_index_or, slice_set, arith, refl, sym, ap, subst, ◌∙◌}
+use Rattle.std.proofs.Common.{◌≡◌, ℕ, ◌+◌, ◌-◌, ◌<◌, ◌≤◌, Bool, true, false, ⊎_elim, Some, List, [], ◌∷◌, inl, inr, length, slice_index_or, slice_set, arith, refl, sym, ap, subst, ◌∙◌}
 use Rattle.std.proofs.Math.Path.{fun_ext}
 use Rattle.std.proofs.lemmas.Bool.{cases_lt, le-ltb, ne_eqb}
 use Rattle.std.proofs.lemmas.List.{get_or_past, get_or-set_same, length-replicate}
@@ -9,24 +9,27 @@ use Rattle.kn_base.specs.declared.key.Key.{Key}
 use Rattle.kn_base.specs.declared.key.Key.TheVariants.{Null}
 use Rattle.kernel_tables.specs.declared.entry.Entry.{Entry}
 use Rattle.kernel_tables.specs.declared.entry.Entry.TheVariants.{Taken, Unspelled as UnspelledEntry}
+use Rattle.kernel_tables.specs.Blocks.{ChangesBlocks, inode_block, machine_block, page_entry_block}
 use Rattle.kernel_tables.specs.Rows.{entry_at}
 use Rattle.space_bank.specs.FreeList.{is_free}
 use Rattle.unix_model.specs.Tables.{at}
-use Rattle.kernel_machine.specs.Standing.{page_owners}
+use Rattle.kernel_machine.specs.Loose.{Loose, Nothing, Ring, root_of, IsRowRoot, StandingBut}
+use Rattle.kernel_machine.specs.Standing.{Standing, page_owners}
+use Rattle.kernel_machine.specs.Trees.{IsRootOf}
 use Rattle.kernel_machine.specs.Machine.{owner_in, page_owner_of}
 use Rattle.kernel_tables.specs.declared.entry.PageOwner.{PageOwner}
 use Rattle.kernel_tables.specs.declared.entry.PageOwner.TheVariants.{Pipe as PipePage}
 use Rattle.kernel_tables.specs.declared.inode.Inode.{Inode}
 use Rattle.kernel_tables.specs.declared.row.Row.{Row}
 use Rattle.kernel_tables.specs.declared.row.Row.TheVariants.{Free, Used, Unspelled}
-use Rattle.kernel_tables.specs.Kernel.{Kernel, IsBankPage, first_page, inode_at, bank_page}
+use Rattle.kernel_tables.specs.Kernel.{Kernel, IsBankPage, first_page, inode_at, bank_page, memory_page}
 use Rattle.space_bank.specs.Bank.{BankGood, TakesPage}
 use Rattle.space_bank.specs.Laws.{and_outside}
 use Rattle.space_bank.specs.Shares.{Outside, PutsPageInHand}
 use Rattle.file_tables.specs.Laws.{WritesFiles}
 use Rattle.file_tables.specs.Numbers.{least_free_inode}
 use Rattle.file_tables.specs.Roots.{named_by, pipe_key, root_key, ExchangesRoots}
-use Rattle.file_tables.specs.Rows.{IsInodeAt}
+use Rattle.file_tables.specs.Rows.{IsInodeAt, InodesGood}
 use Rattle.file_tables.proofs.PageLaws.{page_taken}
 use Rattle.file_tables.proofs.RootLaws.{handed_over}
 use Rattle.forest.specs.Forest.{masked}
@@ -35,10 +38,14 @@ use Rattle.kernel_machine.specs.Contents.{ring_in}
 use Rattle.kernel_machine.specs.Machine.{machine_of, inodes_of, descriptions_of}
 use Rattle.kernel_machine.specs.View.{view, memory_in, process_in, processes_in, file_memory, inode_in, inodes_in, descriptions_in, files_in}
 use Rattle.kernel_machine.proofs.SetLaws.{inode_set}
+use Rattle.kernel_machine.proofs.StandingLaws.{standing_with_words}
+use Rattle.kernel_machine.proofs.LooseLaws.{nothing_loose}
+use Rattle.kernel_machine.proofs.PageStands.{standing_with_page}
+use Rattle.kernel_machine.proofs.RootStands.{standing_with_root}
 use Rattle.unix_model.specs.Files as model
 use Rattle.unix_model.specs.Files.{with_inode}
 use Rattle.unix_model.specs.State.{Unix, with_files}
-use Rattle.pipe_domain.specs.Made.{MakesPipe, empty_pipe, with_promise}
+use Rattle.pipe_domain.specs.Made.{MakesPipe, empty_pipe, made_blocks, with_promise}
 use Rattle.pipe_domain.specs.Pipes.{HasRing, IsPipeAt, IsSeenWith, pipe_at, queue, row_inode}
 
 -- the inode of an empty pipe may stand at any number from 2 on
@@ -63,6 +70,17 @@ bank-unseen : (kernel : Kernel) (promised free taken memory : ℕ) (entries : Li
     → view (machine_of (record kernel { machine = record kernel.machine { promised = promised; free_page = free; memory_taken = memory; pages_taken = taken }; page_entries = entries })) ≡ view (machine_of kernel)
 unfolding view-by view memory_in process_in processes_in file_memory inode_in inodes_in descriptions_in machine_of inodes_of descriptions_of
 bank-unseen kernel promised free taken memory entries = ap (view-by kernel) (keys-same kernel entries)
+
+-- the machine's words are written, then they and the entry of a page, then the row of an inode
+all-changed : (b0 b1 b2 b3 : List (List ℕ)) (words entry row : ℕ) → ChangesBlocks b0 b1 (words ∷ []) → ChangesBlocks b1 b2 (entry ∷ words ∷ []) → ChangesBlocks b2 b3 (row ∷ [])
+    → ChangesBlocks b0 b3 (entry ∷ words ∷ row ∷ [])
+all-changed b0 b1 b2 b3 words entry row promised taken written = record {
+  same_number = written.same_number ∙ taken.same_number ∙ promised.same_number;
+  others = λ block apart.
+      written.others block (λ h. ⊎_elim (λ e. apart (inr (inr (inl e)))) (λ t. absurd t) h)
+      ∙ taken.others block (λ h. ⊎_elim (λ e. apart (inl e)) (λ more. ⊎_elim (λ e. apart (inr (inl e))) (λ t. absurd t) more) h)
+      ∙ promised.others block (λ h. ⊎_elim (λ e. apart (inr (inl e))) (λ t. absurd t) h);
+}
 
 module _ (old two new : Kernel) (pipe page : ℕ) (row : Inode) (takes : TakesPage (with_promise old) two page PipePage) (row_is : row ≡ empty_pipe page) (inside : pipe < length old.inodes)
     (set : new ≡ record two { inodes = slice_set two.inodes pipe (Used row) }) where
@@ -186,11 +204,45 @@ module _ (old two new : Kernel) (pipe page : ℕ) (row : Inode) (takes : TakesPa
       ap (λ (r : Inode). root_key (Used r)) row_is
       ∙ ap (λ (none : Bool). if none then Null else pipe_key page) (let low = takes.low in ne_eqb page 0 (λ none. omega (arith, low, none)))
 
+  was-free : inode_at old pipe ≡ Free → inode_at two pipe ≡ Free
+  was-free free = ap (λ (rows : List (Row Inode)). slice_index_or rows pipe Unspelled) inodes-same ∙ free
+
   pub trees-made : BankGood (with_promise old) → inode_at old pipe ≡ Free → PutsPageInHand (with_promise old) two page → ExchangesRoots two new pipe (Used row)
       → TreesGood old (named_by old.inodes) [] → TreesGood new (named_by new.inodes) []
   trees-made bank free in_hand exchanges trees =
       handed_over two new pipe (Used row) [] writes exchanges
-      (ap root_key (ap (λ (rows : List (Row Inode)). slice_index_or rows pipe Unspelled) inodes-same ∙ free))
+      (ap root_key (was-free free))
       (subst (λ (key : Key). TreesGood two (and_outside (named_by two.inodes) key) []) (sym named)
       (subst (λ (rows : List (Row Inode)). TreesGood two (and_outside (named_by rows) (pipe_key page)) []) (sym inodes-same)
       (page_taken (with_promise old) two page PipePage (named_by old.inodes) [] bank refl takes in_hand (promised-trees (named_by old.inodes) trees))))
+
+  -- the page that was taken is what the row has
+  row-loose : root_of (Used row) ≡ Ring page
+  unfolding first_page
+  row-loose =
+      ap (λ (r : Inode). root_of (Used r)) row_is
+      ∙ ap (λ (none : Bool). if none then Nothing else Ring page) (let low = takes.low in ne_eqb page 0 (λ none. omega (arith, low, none)))
+
+  row-rooted : IsRowRoot two (Used row)
+  row-rooted = subst (λ (r : Inode). IsRootOf (forest_of two) (memory_page two) (page_owners two) r r.kind) (sym row_is) owned
+
+  pub standing-made : BankGood (with_promise old) → BankGood two → inode_at old pipe ≡ Free → PutsPageInHand (with_promise old) two page → ExchangesRoots two new pipe (Used row)
+      → InodesGood new.inodes → Standing old → Standing new
+  standing-made promised bank free in_hand exchanges good standing =
+      (nothing_loose new).1
+      (subst (λ (loose : Loose). StandingBut new loose) (ap root_of (was-free free))
+      (standing_with_root two new pipe (Used row) inside-two set exchanges good row-rooted
+      (subst (λ (loose : Loose). StandingBut two loose) (sym row-loose)
+      (standing_with_page (with_promise old) two page takes in_hand bank
+      (standing_with_words old (with_promise old) old.machine.next_pid old.machine.position (old.machine.promised + 1) refl promised standing)))))
+
+  entry-place : (pipe_at new pipe).root - first_page new.size ≡ page - first_page old.size
+  entry-place =
+      ap (λ (r : Inode). r.root - first_page new.size) row-now
+      ∙ ap (λ (size : ℕ). page - first_page size) (ap (λ (k : Kernel). k.size) set ∙ size-same)
+
+  pub blocks-made : (b0 b1 b2 b3 : List (List ℕ)) → ChangesBlocks b0 b1 (machine_block ∷ []) → ChangesBlocks b1 b2 (page_entry_block (page - first_page old.size) ∷ machine_block ∷ [])
+      → ChangesBlocks b2 b3 (inode_block pipe ∷ []) → ChangesBlocks b0 b3 (made_blocks new pipe)
+  blocks-made b0 b1 b2 b3 promised taken written =
+      subst (λ (n : ℕ). ChangesBlocks b0 b3 (page_entry_block n ∷ machine_block ∷ inode_block pipe ∷ [])) (sym entry-place)
+      (all-changed b0 b1 b2 b3 machine_block (page_entry_block (page - first_page old.size)) (inode_block pipe) promised taken written)

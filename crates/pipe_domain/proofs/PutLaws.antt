@@ -76,7 +76,7 @@ module _ (old new : Kernel) (pipe : ℕ) (from : List ℕ) (good : PipeGood old 
   unfolding machine_of inodes_of descriptions_of
   mid-seen standing =
       ring-moved (machine_of old) (memory_page mid) pipe (pipe_at old pipe) standing.holdings standing.roots (pipe-there old pipe is) is.kind
-      (λ space spaced. same-memory old (pipe_at old pipe).root PipePage written ring.owned refl standing space spaced)
+      (λ space spaced. same-memory old (pipe_at old pipe).root PipePage written ring.owned refl standing.bank standing.trees.held.sound space spaced)
       (λ page owned. other-page standing page Buffer owned (λ same. let both : Some Buffer ≡ Some PipePage = sym owned ∙ ap (at (page_owners old)) same ∙ ring.owned in cc))
       (λ page owned apart. other-page standing page PipePage owned apart)
 

@@ -1,10 +1,11 @@
 -- A pipe that is made: its inode, its page, and the page's promise.
-use Rattle.std.specs.Prelude.{◌≡◌, ℕ, ◌+◌, ◌<◌, ◌≤◌, Some, None, [], slice_set}
+use Rattle.std.specs.Prelude.{◌≡◌, ℕ, ◌+◌, ◌-◌, ◌<◌, ◌≤◌, Some, None, List, [], ◌∷◌, slice_set}
 use Rattle.kernel_tables.specs.declared.entry.PageOwner.TheVariants.{Pipe as PipePage}
 use Rattle.kernel_tables.specs.declared.inode.Inode.{Inode}
 use Rattle.kernel_tables.specs.declared.inode.InodeKind.TheVariants.{Pipe}
 use Rattle.kernel_tables.specs.declared.row.Row.TheVariants.{Used}
-use Rattle.kernel_tables.specs.Kernel.{Kernel}
+use Rattle.kernel_tables.specs.Blocks.{inode_block, machine_block, page_entry_block}
+use Rattle.kernel_tables.specs.Kernel.{Kernel, first_page}
 use Rattle.file_tables.specs.Numbers.{fresh_inode, least_free_inode}
 use Rattle.file_tables.specs.Roots.{ExchangesRoots}
 use Rattle.space_bank.specs.Bank.{TakesPage}
@@ -43,3 +44,12 @@ abbrev pub MakesNoPipe : Kernel → Kernel → Errno → Type 0
 MakesNoPipe old new Enfile = (least_free_inode old ≡ None) × (new ≡ old)
 MakesNoPipe old new Enomem = (number : ℕ) × (least_free_inode old ≡ Some number) × (old.size < old.machine.promised + 1) × (new ≡ old)
 MakesNoPipe old new _ = ⊥
+
+-- the blocks that may have changed where a pipe was made: those of the entry of its page, of the machine's words and of its row
+abbrev pub made_blocks : Kernel → ℕ → List ℕ
+made_blocks new pipe = page_entry_block ((pipe_at new pipe).root - first_page new.size) ∷ machine_block ∷ inode_block pipe ∷ []
+
+-- and where none was made: that of the machine's words, where its page can't be promised
+abbrev pub refused_blocks : Errno → List ℕ
+refused_blocks Enomem = machine_block ∷ []
+refused_blocks _ = []
