@@ -25,6 +25,7 @@ use Rattle.kernel_counts.specs.Counted.{Agrees, CountsOff, IsEven, Offs, descrip
 use Rattle.kernel_machine.specs.Machine.{KernelMachine, machine_of, inodes_of, descriptions_of, held}
 use Rattle.kernel_machine.specs.View.{view, listed, process_in, processes_in, memory_in, file_memory, inode_in, inodes_in, description_in, descriptions_in, files_in}
 use Rattle.kernel_machine.proofs.HeldLaws.{stays}
+use Rattle.kernel_machine.proofs.InvocationsStand.{invocation_unseen}
 use Rattle.kernel_machine.proofs.MachineLaws.{description_written, key_handed_over, numbers_written}
 use Rattle.kernel_machine.proofs.SetLaws.{description_set, domain_set}
 use Rattle.kernel_counts.proofs.TallyLaws.{listed-count, stored-set, times-append, times-cons, times-none}
@@ -78,6 +79,14 @@ counts_with_state old new offs processes files inodes descriptions counts =
           let counted = ap (λ (table : ℕ → Option Process). descriptors_of table n) processes in
           let was = by.by_descriptors n in omega arith;
     })
+
+-- lives, and keys of the resume room, are no part of the flat state
+pub counts_with_invocation : law.CountsWithInvocation
+unfolding inodes_of descriptions_of
+counts_with_invocation old new one given offs goes counts =
+    let seen : view (machine_of new) ≡ view (machine_of old) = invocation_unseen old new one given goes in
+    counts_with_state old new offs (ap (λ (unix : Unix). unix.processes) seen) (ap (λ (unix : Unix). unix.files) seen)
+    (ap inodes_of goes.invokes.rest) (ap descriptions_of goes.invokes.rest) counts
 
 -- ---- processes
 

@@ -23,6 +23,9 @@ use Rattle.domain.specs.Keys.{key_of_space}
 use Rattle.domain.specs.Life.{MakesDomain}
 use Rattle.domain.specs.Rules.{RowsGood}
 use Rattle.domain.specs.Sets.{WritesNumbers, HandsOver}
+use Rattle.invoke.specs.Invokes.{Goes}
+use Rattle.invoke.specs.Others.{seat_at}
+use Rattle.invoke.specs.Steps.{Step, Given}
 use Rattle.unix_model.specs.Calls.{Calls}
 use Rattle.unix_model.specs.Files as model
 use Rattle.unix_model.specs.Files.{Entry, Files, entry_names, has_names, inode_named, links, places_of, with_entry, with_inode, with_place}
@@ -124,6 +127,11 @@ CountsWithProcess =
     → view (machine_of new) ≡ with_process (view (machine_of old)) slot process → at (view (machine_of old)).processes slot ≡ Some was
     → process.descriptors ≡ was.descriptors → inodes_of new ≡ inodes_of old → descriptions_of new ≡ descriptions_of old
     → CountsOff old offs → CountsOff new offs
+
+-- Somebody calls, is reached or answers.
+abbrev pub CountsWithInvocation : Type 0
+CountsWithInvocation =
+    (old new : Kernel) (one : Step) (given : Given) (offs : Offs) → Goes old new one given (seat_at old one) → CountsOff old offs → CountsOff new offs
 
 -- Numbers were written in a domain that keeps its descriptors, or its space was set.
 abbrev pub CountsWithNumbers : Type 0

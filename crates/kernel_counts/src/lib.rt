@@ -16,8 +16,9 @@ pub use files::{
 };
 pub use processes::{
     counts_with_birth, counts_with_buffer, counts_with_descriptor, counts_with_end,
-    counts_with_gone, counts_with_numbers, counts_with_page, counts_with_process,
-    counts_with_space_set, counts_with_state, counts_without_buffer, counts_without_page,
+    counts_with_gone, counts_with_invocation, counts_with_numbers, counts_with_page,
+    counts_with_process, counts_with_space_set, counts_with_state, counts_without_buffer,
+    counts_without_page,
 };
 pub use settled::{counts_are_exact, counts_even, counts_settle, raised_and_lowered};
 pub use spaces::{

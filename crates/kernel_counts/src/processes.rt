@@ -1,6 +1,6 @@
 //! Laws of the counts along with processes: their domains, descriptors and buffers, and the pages of pipes.
 
-ghost use Rattle.kernel_counts.specs.Counted.{CountsWithBirth, CountsWithBuffer, CountsWithDescriptor, CountsWithEnd, CountsWithGone, CountsWithNumbers, CountsWithPage, CountsWithProcess, CountsWithSpaceSet, CountsWithState, CountsWithoutBuffer, CountsWithoutPage};
+ghost use Rattle.kernel_counts.specs.Counted.{CountsWithBirth, CountsWithBuffer, CountsWithDescriptor, CountsWithEnd, CountsWithGone, CountsWithInvocation, CountsWithNumbers, CountsWithPage, CountsWithProcess, CountsWithSpaceSet, CountsWithState, CountsWithoutBuffer, CountsWithoutPage};
 
 /// Processes and files of the flat state are the same.
 pub fn counts_with_state()
@@ -10,6 +10,11 @@ pub fn counts_with_state()
 /// A process is another one with the same descriptors.
 pub fn counts_with_process()
     ensures { CountsWithProcess }
+{}
+
+/// Somebody calls, is reached or answers.
+pub fn counts_with_invocation()
+    ensures { CountsWithInvocation }
 {}
 
 /// Numbers are written in a domain that keeps its descriptors.
