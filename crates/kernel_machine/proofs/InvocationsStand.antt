@@ -247,7 +247,7 @@ slots_are_good_but roots room lives domains good = record {
   free = good.free;
 }
 
-among-or : (root : ℕ) (some : List ℕ) → IsAmong root some ⊎ (IsAmong root some → ⊥)
+pub among-or : (root : ℕ) (some : List ℕ) → IsAmong root some ⊎ (IsAmong root some → ⊥)
 among-or root [] = inr (λ none. none)
 among-or root (other ∷ others) = ⊎_elim
     (λ (e : root ≡ other). inl (inl e))

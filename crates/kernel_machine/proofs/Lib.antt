@@ -32,3 +32,4 @@ pub mod BirthStands
 pub mod EndStands
 pub mod MarksStand
 pub mod InvocationsStand
+pub mod ServicesStand

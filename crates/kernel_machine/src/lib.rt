@@ -22,8 +22,10 @@ pub use changes::{
     spaces_changed,
 };
 pub use invocations::{
-    invocation_unseen, slots_are_good_but, slots_are_settled, slots_but_with_domain,
-    slots_but_with_wake, slots_with_invocation, standing_with_invocation,
+    fixed_are_good_but, fixed_are_settled, fixed_but_with_birth, fixed_but_with_gone,
+    fixed_but_with_rows, fixed_with_invocation, invocation_unseen, slots_are_good_but,
+    slots_are_settled, slots_but_with_domain, slots_but_with_wake, slots_with_invocation,
+    standing_with_invocation,
 };
 pub use keeps::{
     fixed_with_birth, fixed_with_gone, fixed_with_rows, store_is_whole, trees_with_birth,
