@@ -136,8 +136,8 @@ fixed_are_settled kernel apart but settled = record {
   services = λ service low high. (
     (at (lives kernel) service).count,
     subst (λ (state : State). IsServiceRoot kernel.keys service (state_number state) (at (lives kernel) service).count)
-    (⊎_elim (settled service low high) (but.available service low high) (among-or service apart))
-    (but.services service low high),
+        (⊎_elim (settled service low high) (but.available service low high) (among-or service apart))
+        (but.services service low high),
   );
   room = but.room;
   slots = but.slots;
