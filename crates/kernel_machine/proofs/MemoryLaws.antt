@@ -254,14 +254,3 @@ tree_changed old new number inode space holdings trees is root_is there tree cha
     view-now old new space holdings trees changes (processes_in old) (with_at (inodes_in old) number (Some (inode_in new inode)))
     (processes-kept old new space holdings trees changes (no-process old new number space inode holdings trees is root_is there tree changes))
     (inodes-moved old new number space inode holdings trees is root_is there tree changes)
-
--- a memory that no process and no file has changes: nothing is seen of it
-pub memory_unseen : (old new : KernelMachine) (space : ℕ) → HoldingsGood old.domains old.forest old.page_owner → RootsGood old.forest old.page_bytes old.page_owner old.inodes
-    → ((root : ℕ) → (at old.domains root).space ≢ Some space)
-    → ((number : ℕ) (row : Inode) → at old.inodes number ≡ Some row → HasTree row.kind → row.root ≢ 0 → row.root ≢ space)
-    → ChangesMemory old new space → view new ≡ view old
-unfolding view
-memory_unseen old new space holdings trees no_process no_file changes =
-    view-now old new space holdings trees changes (processes_in old) (inodes_in old)
-    (processes-kept old new space holdings trees changes no_process)
-    (inodes-kept old new space holdings trees changes no_file)
