@@ -1,5 +1,5 @@
 -- Pieces that are put one behind the other.
-use Rattle.std.proofs.Common.{◌≡◌, ℕ, ◌+◌, ◌-◌, ◌<◌, ◌≤◌, Option, Some, List, [], ◌++◌, length, get_or, length-append, refl, ap, sym, ◌∙◌, arith, ⊎_elim}
+use Rattle.std.proofs.Common.{◌≡◌, ℕ, ◌+◌, ◌-◌, ◌<◌, ◌≤◌, Option, Some, List, [], ◌++◌, length, get_or, length-append, refl, ap, sym, subst, ◌∙◌, arith, ⊎_elim}
 use Rattle.std.proofs.lemmas.Bool.{cases_lt}
 use Rattle.std.proofs.lemmas.Grind.{same_number_lists}
 use Rattle.std.proofs.lemmas.List.{get_or_append_left, get_or-append_right}
@@ -14,7 +14,7 @@ use Rattle.unix_model.specs.Tables.{at, with_at}
 use Rattle.unix_model.proofs.TableLaws.{at-with_at, with_at-same, with_at-twice}
 use Rattle.kernel_machine.specs.Machine.{KernelMachine, machine_of, inodes_of}
 use Rattle.kernel_machine.specs.View.{view, stored}
-use Rattle.file_domain.specs.Effects.{with_file, PutsAt}
+use Rattle.file_domain.specs.Effects.{with_file, ChangesFile, PutsAt}
 use Rattle.file_domain.specs.Good.{FilesGood, IsFileAt}
 use Rattle.file_domain.proofs.Seen.{seen_file, there_file}
 
@@ -61,12 +61,15 @@ module _ (kernel : Kernel) (number place : ℕ) (inode : Inode) (good : FilesGoo
   unfolding machine_of
   same_state = ap (λ table. let m : KernelMachine = record (machine_of kernel) { inodes = table } in m) (sym (with_at-same (inodes_of kernel) number (Some inode) (there_file kernel number inode file)))
 
+  pub changes_nothing : ChangesFile kernel kernel number inode inode
+  changes_nothing = record { row = refl; there = file.there; state = same_state }
+
   pub puts_nothing : PutsAt kernel kernel number place []
   puts_nothing = record {
     inode = inode;
     was = file;
     now = inode;
-    changes = record { row = refl; there = file.there; state = same_state };
+    changes = changes_nothing;
     length_same = refl;
     seen = sym
         (ap (with_file (view (machine_of kernel)) number) (overwritten-none (stored (machine_of kernel) inode) place)
@@ -75,6 +78,45 @@ module _ (kernel : Kernel) (number place : ℕ) (inode : Inode) (good : FilesGoo
     promised_same = refl;
     good = good;
     file = file;
+  }
+
+-- ---- one change after another
+
+-- the bytes that a file had are gone
+pub file_twice : (unix : Unix) (number : ℕ) (first second : List ℕ) → with_file (with_file unix number first) number second ≡ with_file unix number second
+file_twice unix number first second =
+    ap (λ table. let after : Unix = record unix { files = record unix.files { inodes = table } } in after) (with_at-twice unix.files.inodes number (Some (File first)) (Some (File second)))
+
+module _ (k0 k1 k2 : Kernel) (number : ℕ) (inode mid now : Inode) (a : ChangesFile k0 k1 number inode mid) (b : ChangesFile k1 k2 number mid now) where
+  build : (ℕ → Option Inode) → (s q p n : ℕ) → KernelMachine
+  build table s q p n =
+      record (machine_of k0) {
+        forest = (machine_of k2).forest;
+        page_bytes = (machine_of k2).page_bytes;
+        page_owner = (machine_of k2).page_owner;
+        inodes = table;
+        words = record (machine_of k2).words { size = s; quantum = q; position = p; next_pid = n };
+      }
+
+  state_after : machine_of k2 ≡ build (with_at (machine_of k0).inodes number (Some now)) k0.machine.size k0.machine.quantum k0.machine.position k0.machine.next_pid
+  unfolding build machine_of
+  state_after =
+      b.state
+      ∙ ap (λ (m : KernelMachine). let n : KernelMachine = record m {
+        forest = (machine_of k2).forest;
+        page_bytes = (machine_of k2).page_bytes;
+        page_owner = (machine_of k2).page_owner;
+        inodes = with_at m.inodes number (Some now);
+        words = record (machine_of k2).words { size = m.words.size; quantum = m.words.quantum; position = m.words.position; next_pid = m.words.next_pid };
+      } in n) a.state
+      ∙ ap (λ table. build table k0.machine.size k0.machine.quantum k0.machine.position k0.machine.next_pid) (with_at-twice (machine_of k0).inodes number (Some mid) (Some now))
+
+  pub changes_more : ChangesFile k0 k2 number inode now
+  unfolding build
+  changes_more = record {
+    row = b.row ∙ ap (λ (i : Inode). let j : Inode = record i { length = now.length; root = now.root } in j) a.row;
+    there = b.there;
+    state = state_after;
   }
 
 -- ---- one piece behind another
@@ -102,43 +144,14 @@ module _ (k0 k1 k2 : Kernel) (number place next : ℕ) (first rest : List ℕ) (
       b.seen
       ∙ ap (with_file (view (machine_of k1)) number) bytes_after
       ∙ ap (λ (u : Unix). with_file u number (overwritten (stored (machine_of k0) a.inode) place (first ++ rest))) a.seen
-      ∙ ap (λ table. let unix : Unix = record (view (machine_of k0)) { files = record (view (machine_of k0)).files { inodes = table } } in unix)
-      (with_at-twice (view (machine_of k0)).files.inodes number (Some (File (overwritten (stored (machine_of k0) a.inode) place first))) (Some (File (overwritten (stored (machine_of k0) a.inode) place (first ++ rest)))))
-
-  build : (ℕ → Option Inode) → (s q p n : ℕ) → KernelMachine
-  build table s q p n =
-      record (machine_of k0) {
-        forest = (machine_of k2).forest;
-        page_bytes = (machine_of k2).page_bytes;
-        page_owner = (machine_of k2).page_owner;
-        inodes = table;
-        words = record (machine_of k2).words { size = s; quantum = q; position = p; next_pid = n };
-      }
-
-  state_after : machine_of k2 ≡ build (with_at (machine_of k0).inodes number (Some b.now)) k0.machine.size k0.machine.quantum k0.machine.position k0.machine.next_pid
-  unfolding build machine_of
-  state_after =
-      b.changes.state
-      ∙ ap (λ (m : KernelMachine). let n : KernelMachine = record m {
-        forest = (machine_of k2).forest;
-        page_bytes = (machine_of k2).page_bytes;
-        page_owner = (machine_of k2).page_owner;
-        inodes = with_at m.inodes number (Some b.now);
-        words = record (machine_of k2).words { size = m.words.size; quantum = m.words.quantum; position = m.words.position; next_pid = m.words.next_pid };
-      } in n) a.changes.state
-      ∙ ap (λ table. build table k0.machine.size k0.machine.quantum k0.machine.position k0.machine.next_pid) (with_at-twice (machine_of k0).inodes number (Some a.now) (Some b.now))
+      ∙ file_twice (view (machine_of k0)) number (overwritten (stored (machine_of k0) a.inode) place first) (overwritten (stored (machine_of k0) a.inode) place (first ++ rest))
 
   pub puts_more : PutsAt k0 k2 number place (first ++ rest)
-  unfolding build
   puts_more = record {
     inode = a.inode;
     was = a.was;
     now = b.now;
-    changes = record {
-      row = b.changes.row ∙ ap (λ (i : Inode). let j : Inode = record i { length = b.now.length; root = b.now.root } in j) (same_inode ∙ a.changes.row);
-      there = b.changes.there;
-      state = state_after;
-    };
+    changes = changes_more k0 k1 k2 number a.inode a.now b.now a.changes (subst (λ (i : Inode). ChangesFile k1 k2 number i b.now) same_inode b.changes);
     length_same = b.length_same ∙ ap (λ (i : Inode). i.length) same_inode ∙ a.length_same;
     seen = seen_after;
     promised_same = b.promised_same ∙ a.promised_same;

@@ -8,3 +8,5 @@ pub mod Puts
 pub mod Kept
 pub mod First
 pub mod Chains
+pub mod WriteLaws
+pub mod Parts

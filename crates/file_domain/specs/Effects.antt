@@ -1,11 +1,15 @@
 -- What calls on files do, in the words of the definitions.
-use Rattle.std.specs.Prelude.{◌≡◌, ℕ, ◌++◌, Some, true, false, List, length, take, drop}
+use Rattle.std.specs.Prelude.{◌≡◌, ℕ, ◌-◌, ◌++◌, ◌==◌, if◌then◌else◌, nat_le, Some, true, false, List, length, take, drop, Result, Ok, Err}
 use Rattle.kn_base.specs.Rows.{overwritten as put_over}
 use Rattle.kernel_tables.specs.declared.inode.Inode.{Inode}
 use Rattle.kernel_tables.specs.declared.row.Row.TheVariants.{Used}
 use Rattle.kernel_tables.specs.Kernel.{Kernel, inode_at}
-use Rattle.unix_model.specs.FileCalls.{resized}
+use Rattle.unix_model.specs.declared.calls.Errno.{Errno}
+use Rattle.unix_model.specs.declared.calls.Errno.TheVariants.{Efbig, Enospc}
+use Rattle.unix_model.specs.FileCalls.{overwritten, resized}
 use Rattle.unix_model.specs.Files.{File, with_inode}
+use Rattle.unix_model.specs.Limits.{most_file_bytes}
+use Rattle.unix_model.specs.Refusals.{◌>>◌, refuse◌when◌, refuse◌where_not◌}
 use Rattle.unix_model.specs.Room.{has_room}
 use Rattle.unix_model.specs.State.{Unix, with_files}
 use Rattle.unix_model.specs.Tables.{with_at}
@@ -61,3 +65,46 @@ pub record PutsAt (old new : Kernel) (number place : ℕ) (bytes : List ℕ) : T
   pub promised_same : new.machine.promised ≡ old.machine.promised
   pub good : FilesGood new
   pub file : IsFileAt new number now
+
+-- ---- a whole write
+
+-- the bytes of a write that a file has places for: those past its greatest length are cut off
+abbrev pub part_within : ℕ → List ℕ → List ℕ
+part_within place written = take (most_file_bytes - place) written
+
+-- The state with a part written to a file from a place on, a gap before it zero, or why there is none.
+abbrev pub with_part_written : Unix → ℕ → List ℕ → ℕ → List ℕ → Result Unix Errno
+with_part_written unix number bytes place part = do
+  refuse Efbig when nat_le most_file_bytes place
+  refuse Enospc where_not has_room (with_file unix number (overwritten bytes place part))
+  Ok (with_file unix number (overwritten bytes place part))
+
+-- The same for all bytes of a write, as the line of write on a file has it without the offset of a description: no bytes change
+-- nothing, wherever they would begin.
+abbrev pub with_bytes_written : Unix → ℕ → List ℕ → ℕ → List ℕ → Result Unix Errno
+with_bytes_written unix number bytes place written =
+    if length written == 0 then Ok unix else with_part_written unix number bytes place (part_within place written)
+
+-- Of the machine one file is another one, and what calls on files ask holds.
+pub record LeavesFiles (old new : Kernel) (number : ℕ) (inode : Inode) : Type 0 where
+  pub now : Inode
+  pub changes : ChangesFile old new number inode now
+  pub good : FilesGood new
+  pub file : IsFileAt new number now
+
+-- The flat state is the one that a line says, and a count is answered; or the line is refused, and nothing has changed.
+abbrev pub WritesBy : Result Unix Errno → Kernel → Kernel → ℕ → Inode → ℕ → Result ℕ Errno → Type 0
+WritesBy line old new number inode count (Ok answer) =
+    (line ≡ Ok (view (machine_of new))) × (answer ≡ count) × LeavesFiles old new number inode
+WritesBy line old new number inode count (Err errno) = (line ≡ Err errno) × (new ≡ old)
+
+-- Bytes were written to a file from a place on as the definitions say, and how many they are is answered.
+abbrev pub Writes : Kernel → Kernel → ℕ → Inode → ℕ → List ℕ → Result ℕ Errno → Type 0
+Writes old new number inode place written =
+    WritesBy (with_bytes_written (view (machine_of old)) number (stored (machine_of old) inode) place written) old new number inode
+    (length (part_within place written))
+
+-- The same for a part that ends within the greatest length.
+abbrev pub WritesPart : Kernel → Kernel → ℕ → Inode → ℕ → List ℕ → Result ℕ Errno → Type 0
+WritesPart old new number inode place part =
+    WritesBy (with_part_written (view (machine_of old)) number (stored (machine_of old) inode) place part) old new number inode (length part)

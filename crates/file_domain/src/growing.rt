@@ -34,6 +34,7 @@ pub fn grow<T: Store>(store: &mut T, file: u32, inode: Inode, length: u32) -> Re
     ensures grown { IfOk result (λ done. Resizes (kernel_of (T.memory store.old)) (kernel_of (T.memory store.new)) file inode (record inode { length = length })) }
     ensures refused { OnErr result (NoRoom (kernel_of (T.memory store.old)) (kernel_of (T.memory store.new)) file inode length) }
     ensures errno { (errno : Errno) → result ≡ Err errno → errno ≡ Enospc }
+    ensures none_taken { (kernel_of (T.memory store.new)).page_entries ≡ (kernel_of (T.memory store.old)).page_entries }
     ensures keeps { T.keeps store.old store.new }
 {
     let more = pages_of(length) - pages_of(inode.length);

@@ -3,8 +3,10 @@
 
 mod growing;
 mod reading;
+mod whole;
 mod writing;
 
 pub use growing::grow;
 pub use reading::read_at;
+pub use whole::write_at;
 pub use writing::put_all;
