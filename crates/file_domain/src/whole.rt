@@ -13,9 +13,6 @@ use file_tables::{Inode, inode_of};
 use kn_base::Store;
 use unix_model::Errno;
 
-/// The most bytes that a file has.
-const MOST_BYTES: u32 = 4_194_304;
-
 // The first bytes, at most so many.
 fn front(bytes: &[u8], count: u32) -> &[u8]
     ensures first { result.now ≡ take count bytes.now }
@@ -74,10 +71,10 @@ pub fn write_at<T: Store>(store: &mut T, file: u32, at: u32, from: &[u8]) -> Res
     if from.is_empty() {
         return Ok(0);
     }
-    if at >= MOST_BYTES {
+    if at >= 4194304 {
         return Err(Errno::Efbig);
     }
-    let part = front(from, MOST_BYTES - at);
+    let part = front(from, 4194304 - at);
     match inode_of(store, file) {
         Some(inode) => write_part(store, file, inode, at, part),
         None => Ok(0),
