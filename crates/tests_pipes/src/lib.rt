@@ -4,7 +4,7 @@
 mod counted;
 #[cfg(test)]
 mod pipes;
+#[cfg(test)]
 mod piping;
 
 pub use counted::count_opens;
-pub use piping::{empty_pipe, open_both};
