@@ -5,6 +5,7 @@ ghost use Rattle.kn_base.specs.Memory.{Memory};
 ghost use Rattle.kernel_tables.specs.Kernel.{Kernel, kernel_of};
 ghost use Rattle.unix_model.specs.Files.{is_directory, with_place};
 ghost use Rattle.unix_model.specs.Rules.{IsName};
+ghost use Rattle.kernel_machine.specs.Contents.{place_in};
 ghost use Rattle.kernel_machine.specs.Standing.{Standing};
 ghost use Rattle.dir_domain.specs.Changes.{ChangesPlaces, HasRoom, name_told, entry_of};
 ghost use Rattle.dir_domain.specs.Rows.{inode_seen, places_seen};
@@ -15,6 +16,33 @@ use super::search::find_place;
 use super::write::write_place;
 use kn_base::Store;
 use unix_model::Errno;
+
+// Puts bytes into the place of a name. Answers the inode that had the name.
+fn change_place<T: Store>(
+    store: &mut T,
+    dir: u32,
+    name: &[u8],
+    bytes: &[u8; 32],
+) -> Result<u32, Errno>
+    requires standing { Standing (kernel_of (T.memory store.old)) }
+    requires directory { is_directory (inode_seen (kernel_of (T.memory store.old)) dir) ≡ true }
+    requires room { HasRoom (kernel_of (T.memory store.old)) dir }
+    ensures told { result ≡ name_told (places_seen (kernel_of (T.memory store.old)) dir) name.now }
+    ensures changed { let old = kernel_of (T.memory store.old) in IfOk result (λ was. ChangesPlaces old (kernel_of (T.memory store.new)) dir (with_place (places_seen old dir) name.now (place_in bytes.now))) }
+    ensures refused { OnErr result (kernel_of (T.memory store.new) ≡ kernel_of (T.memory store.old)) }
+    ensures promised { (kernel_of (T.memory store.new)).machine.promised ≡ (kernel_of (T.memory store.old)).machine.promised }
+    ensures most { (kernel_of (T.memory store.new)).machine.nodes_taken ≤ (kernel_of (T.memory store.old)).machine.nodes_taken + 12 }
+    ensures keeps { T.keeps store.old store.new }
+{
+    let row = directory_row(store, dir);
+    match find_place(store, &row, name) {
+        Some(named) => {
+            write_place(store, &row, named.number, bytes);
+            Ok(named.inode)
+        }
+        None => Err(Errno::Enoent),
+    }
+}
 
 /// Takes a name away from a directory: its place is a hole then, all its bytes zero. Answers the inode that had the name. ENOENT
 /// comes exactly where no place has it, and then nothing has changed.
@@ -29,14 +57,7 @@ pub fn remove_name<T: Store>(store: &mut T, dir: u32, name: &[u8]) -> Result<u32
     ensures most { (kernel_of (T.memory store.new)).machine.nodes_taken ≤ (kernel_of (T.memory store.old)).machine.nodes_taken + 12 }
     ensures keeps { T.keeps store.old store.new }
 {
-    let row = directory_row(store, dir);
-    match find_place(store, &row, name) {
-        Some(named) => {
-            write_place(store, &row, named.number, &[0; 32]);
-            Ok(named.inode)
-        }
-        None => Err(Errno::Enoent),
-    }
+    change_place(store, dir, name, &[0; 32])
 }
 
 /// Puts another inode into the place of a name, which stays where it is. Answers the inode that had the name. ENOENT comes
@@ -58,12 +79,5 @@ pub fn replace_name<T: Store>(
     ensures most { (kernel_of (T.memory store.new)).machine.nodes_taken ≤ (kernel_of (T.memory store.old)).machine.nodes_taken + 12 }
     ensures keeps { T.keeps store.old store.new }
 {
-    let row = directory_row(store, dir);
-    match find_place(store, &row, name) {
-        Some(named) => {
-            write_place(store, &row, named.number, &entry_bytes(inode, name));
-            Ok(named.inode)
-        }
-        None => Err(Errno::Enoent),
-    }
+    change_place(store, dir, name, &entry_bytes(inode, name))
 }

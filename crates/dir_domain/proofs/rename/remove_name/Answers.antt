@@ -1,43 +1,15 @@
-use Rattle.std.proofs.Common.{◌/◌, arith, None, ap, sym, subst, ◌∙◌}
+use Rattle.std.proofs.Common.{subst}
+use Rattle.std.specs.Prelude.{IfOk}
 use Rattle.kernel_tables.specs.Kernel.{kernel_of}
-use Rattle.unix_model.specs.Files.{inode_named}
+use Rattle.unix_model.specs.Files.{with_place}
 use Rattle.dir_domain.specs.Changes.{ChangesPlaces}
-use Rattle.dir_domain.specs.Rows.{bytes_stored, places_seen}
-use Rattle.dir_domain.proofs.FoundPlaces.{first-named}
-use Rattle.dir_domain.proofs.Names.{hole-place, named-tree, place-changed, found-told, none-told}
-use Rattle.dir_domain.proofs.Seen.{places-are}
+use Rattle.dir_domain.specs.Rows.{places_seen}
+use Rattle.dir_domain.proofs.Names.{hole-place}
 use Rattle.dir_domain.proofs.rename.remove_name.Goals as goal
 
-pub write_place-requires : goal.write_place-requires
-write_place-requires g c =
+pub returns-clause-changed : goal.returns-clause-changed
+returns-clause-changed g c =
     let old = kernel_of (g.T.Store.memory c.args.store.now) in
-    let row = c.directory_row-row.result in
-    let first = first-named (bytes_stored old row) c.args.name.now _ c.in-Some.named.number c.in-Some.ensures.number in
-    record {
-      standing = c.requires.standing;
-      row = (c.args.dir, c.directory_row-row.ensures);
-      tree = named-tree old c.args.dir c.in-Some.named.number row c.args.name.now c.requires.standing c.directory_row-row.ensures first.inside first.named;
-      number = first.inside;
-      nodes = c.requires.room.nodes;
-      pages = λ own. c.requires.room.pages row (c.in-Some.named.number / 128) c.directory_row-row.ensures.there (let below = first.inside in omega arith) (λ real. own);
-    }
-
-pub returns-in-Some-clause-told : goal.returns-in-Some-clause-told
-returns-in-Some-clause-told g c =
-    let old = kernel_of (g.T.Store.memory c.args.store.now) in
-    found-told (places_seen old c.args.dir) c.args.name.now c.in-Some.named.inode
-    (c.in-Some.ensures.inode ∙ ap (λ places. inode_named places c.args.name.now) (sym (places-are old c.args.dir c.directory_row-row.result c.directory_row-row.ensures)))
-
-pub returns-in-Some-clause-changed : goal.returns-in-Some-clause-changed
-returns-in-Some-clause-changed g c =
-    let old = kernel_of (g.T.Store.memory c.args.store.now) in
-    let new = kernel_of (g.T.Store.memory c.write_place.new.store) in
-    subst (ChangesPlaces old new c.args.dir)
-    (place-changed old c.args.dir c.in-Some.named.number c.directory_row-row.result c.args.name.now _ None c.directory_row-row.ensures c.in-Some.ensures.number hole-place)
-    (c.write_place.ensures.changed c.args.dir c.directory_row-row.ensures)
-
-pub returns-in-None-clause-told : goal.returns-in-None-clause-told
-returns-in-None-clause-told g c =
-    let old = kernel_of (g.T.Store.memory c.args.store.now) in
-    none-told (places_seen old c.args.dir) c.args.name.now
-    (c.in-None.ensures.inode ∙ ap (λ places. inode_named places c.args.name.now) (sym (places-are old c.args.dir c.directory_row-row.result c.directory_row-row.ensures)))
+    let new = kernel_of (g.T.Store.memory c.change_place.new.store) in
+    subst (λ place. IfOk c.change_place.result (λ inode. ChangesPlaces old new c.args.dir (with_place (places_seen old c.args.dir) c.args.name.now place)))
+    hole-place c.change_place.ensures.changed
