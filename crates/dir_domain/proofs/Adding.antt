@@ -1,14 +1,12 @@
 -- A name is added: the tests of the line, the promise, and the places.
-use Rattle.std.proofs.Common.{◌≡◌, ◌≢◌, ℕ, zero, suc, ◌+◌, ◌*◌, ◌/◌, ◌<◌, true, false, Option, Some, None, List, [], ◌∷◌, ◌++◌, length, set, refl, ap, ap₂, sym, subst, ◌∙◌, arith, ⊎_elim}
+use Rattle.std.proofs.Common.{◌≡◌, ◌≢◌, ℕ, zero, suc, ◌+◌, ◌*◌, ◌/◌, ◌<◌, true, false, Option, Some, None, List, [], ◌∷◌, ◌++◌, length, set, refl, ap, ap₂, sym, subst, ◌∙◌, arith}
 use Rattle.std.specs.Option.{is_some}
 use Rattle.std.specs.Prelude.{Ok, Err}
-use Rattle.std.proofs.lemmas.Bool.{cases_eq}
 use Rattle.kernel_tables.specs.declared.inode.Inode.{Inode}
-use Rattle.kernel_tables.specs.Kernel.{Kernel, memory_page}
-use Rattle.kernel_forest.specs.Trees.{forest_of}
+use Rattle.kernel_tables.specs.Kernel.{Kernel}
 use Rattle.unix_model.specs.declared.calls.Errno.TheVariants.{Eexist, Enospc}
 use Rattle.unix_model.specs.Files as model
-use Rattle.unix_model.specs.Files.{Entry, Files, inode_named, inode_pages, is_directory, is_full, places_of, parent_of, with_entry, with_name, with_places}
+use Rattle.unix_model.specs.Files.{Entry, inode_named, inode_pages, is_directory, is_full, places_of, parent_of, with_name, with_places}
 use Rattle.unix_model.specs.Numbers.{pages_of}
 use Rattle.unix_model.specs.Room.{promised, has_room}
 use Rattle.unix_model.specs.State.{Unix, with_files}
@@ -23,13 +21,12 @@ use Rattle.kernel_machine.proofs.MachineLaws.{spaces_changed}
 use Rattle.kernel_machine.proofs.PagesHeld.{places-long}
 use Rattle.kernel_machine.proofs.ViewLaws.{words_changed}
 use Rattle.file_trees.specs.Trees.{tree_memory}
-use Rattle.file_trees.proofs.Pages.{page_absent, tree_is_space}
+use Rattle.file_trees.proofs.FileTrees.{memory_of_root}
 use Rattle.dir_domain.specs.Changes.{ChangesPlaces, with_tree, places_for, with_name_added}
 use Rattle.dir_domain.specs.Places.{numbered_place}
 use Rattle.dir_domain.specs.Rows.{IsDirectoryRow, places_seen, bytes_stored}
-use Rattle.dir_domain.proofs.Growing.{hole-behind, blank-place, places-more, set-last-place}
+use Rattle.dir_domain.proofs.Growing.{hole-behind, places-more, set-last-place}
 use Rattle.dir_domain.proofs.Seen.{places-are, tree-whole}
-use Rattle.dir_domain.proofs.TreeWrites.{IsFileMemory, tree-memory}
 
 -- ---- the lines of the definitions
 
@@ -123,13 +120,8 @@ module _ (old : Kernel) (n : ℕ) where
       → numbered_place (file_in (tree_memory old row.root) (32 * (row.length / 32) + 32)) (row.length / 32) ≡ None
   next-hole dir row standing is =
       let exact = is.whole in
-      ⊎_elim
-      (λ (t : row.root ≡ 0). blank-place (tree_memory old row.root) (tree-whole old row.root standing is.tree) (32 * (row.length / 32) + 32) (row.length / 32) (page_absent old row.root (row.length / 32 / 128) t) (omega arith))
-      (λ (some : row.root ≢ 0).
-      hole-behind (tree_memory old row.root) (tree-whole old row.root standing is.tree) row.length
-      (subst (λ m. IsFileMemory m row.length) (sym (tree_is_space old row.root some)) (tree-memory (forest_of old).keys (memory_page old) row.root row.length (is.file some)))
-      (row.length / 32) (omega arith))
-      (cases_eq row.root 0)
+      let whole = tree-whole old row.root standing is.tree in
+      hole-behind (tree_memory old row.root) whole row.length (memory_of_root old row.root row.length whole is.file) (row.length / 32) (omega arith)
 
   -- a place more, which is filled
   pub place-appended : (dir : ℕ) (row : Inode) (place : Option Entry) → Standing old → IsDirectoryRow old dir row

@@ -1,22 +1,20 @@
 -- A place of a directory is written: its places have changed, and nothing else that is seen.
-use Rattle.std.proofs.Common.{◌≡◌, ◌≢◌, ℕ, ◌+◌, ◌-◌, ◌*◌, ◌/◌, ◌<◌, ◌≤◌, Some, List, [], length, set, refl, ap, ap₂, sym, subst, ◌∙◌, arith, inr}
-use Rattle.std.specs.Prelude.{option_map, slice_index_or, ◌%◌}
-use Rattle.std.proofs.lemmas.Bool.{ne_eqb}
+use Rattle.std.proofs.Common.{◌≡◌, ◌≢◌, ℕ, ◌+◌, ◌-◌, ◌*◌, ◌/◌, ◌<◌, ◌≤◌, Some, List, [], length, set, refl, ap, ap₂, sym, subst, ◌∙◌, arith}
+use Rattle.std.specs.Prelude.{option_map, ◌%◌}
 use Rattle.std.proofs.lemmas.List.{length-set}
 use Rattle.kernel_tables.specs.declared.inode.Inode.{Inode}
 use Rattle.kernel_tables.specs.declared.inode.InodeKind.{InodeKind}
 use Rattle.kernel_tables.specs.declared.inode.InodeKind.TheVariants.{File, Dir, Pipe, Console}
-use Rattle.kernel_tables.specs.Kernel.{Kernel, IsBankPage, first_page, memory_page}
+use Rattle.kernel_tables.specs.Kernel.{Kernel, memory_page}
 use Rattle.space_bank.specs.Bank.{BankGood}
 use Rattle.kernel_forest.specs.Trees.{forest_of}
 use Rattle.unix_model.specs.Files as model
-use Rattle.unix_model.specs.Files.{Entry, parent_of, with_inode}
+use Rattle.unix_model.specs.Files.{parent_of, with_inode}
 use Rattle.unix_model.specs.Memory.{Memory}
 use Rattle.unix_model.specs.State.{with_files}
 use Rattle.unix_model.specs.Tables.{at, with_at}
 use Rattle.unix_model.proofs.TableLaws.{with_at-same}
-use Rattle.user_copy.proofs.Pieces.{WholePages}
-use Rattle.kernel_machine.specs.Contents.{file_in, place_in, places_in}
+use Rattle.kernel_machine.specs.Contents.{place_in, places_in}
 use Rattle.kernel_machine.specs.Held.{AllWhole}
 use Rattle.kernel_machine.specs.Laws.{ChangesMemory}
 use Rattle.kernel_machine.specs.Machine.{KernelMachine, machine_of, inodes_of}
@@ -24,24 +22,17 @@ use Rattle.kernel_machine.specs.Standing.{Standing}
 use Rattle.kernel_machine.specs.Trees.{HasTree, IsFileTree}
 use Rattle.kernel_machine.specs.View.{view, inode_by, inode_in, inodes_in, files_in, stored}
 use Rattle.kernel_machine.proofs.MemoryLaws.{tree_changed}
-use Rattle.kernel_machine.proofs.PagesHeld.{places-long}
+use Rattle.kernel_machine.proofs.PagesHeld.{file-long, places-long}
 use Rattle.kernel_machine.proofs.SpacesStand.{standing_with_tree}
 use Rattle.file_trees.specs.Pieces.{PutsInTree}
 use Rattle.file_trees.specs.Trees.{tree_memory}
 use Rattle.file_trees.proofs.Contents.{WholeTree}
-use Rattle.file_trees.proofs.Pages.{tree_is_space}
+use Rattle.file_trees.proofs.FileTrees.{bytes_put, memory_of_root, tree_put}
+use Rattle.file_trees.proofs.Views.{changes_memory}
 use Rattle.dir_domain.specs.Changes.{ChangesPlaces, with_tree}
 use Rattle.dir_domain.specs.Rows.{IsDirectoryRow, places_seen, inode_seen, bytes_stored}
-use Rattle.dir_domain.proofs.Seen.{places-are, tree-whole, some-first}
-use Rattle.dir_domain.proofs.TreeWrites.{IsFileMemory, ends-by, leaves-memory, tree-memory, memory-tree, piece-memory, places-put}
-
--- the pages of a bank are whole
-pub all-whole : (kernel : Kernel) → BankGood kernel → WholePages kernel → AllWhole kernel.bank
-all-whole kernel good pages page below =
-    let minus : first_page kernel.size + page - first_page kernel.size ≡ page = omega arith in
-    let inside : IsBankPage kernel.size (first_page kernel.size + page) = record { low = omega arith; high = omega (arith, good.pages.pages) } in
-    let long = pages.whole (first_page kernel.size + page) (inr inside) in
-    subst (λ n. length (slice_index_or kernel.bank n []) ≡ 4096) minus (rw (ne_eqb (first_page kernel.size + page) 0 (some-first kernel.size page)) at long)
+use Rattle.dir_domain.proofs.PlaceWrites.{places-put}
+use Rattle.dir_domain.proofs.Seen.{places-are, tree-whole}
 
 -- what an inode that is a directory is seen as
 dir-by : (machine : KernelMachine) (row : Inode) (kind : InodeKind) → kind ≡ Dir → inode_by machine row kind ≡ model.Directory row.parent (places_in (stored machine row) (row.length / 32))
@@ -80,16 +71,13 @@ module _ (old new : Kernel) (dir number : ℕ) (row : Inode) (bytes : List ℕ) 
 
   file-now : IsFileTree (forest_of new).keys (memory_page new) row.root row.length
   file-now =
-      memory-tree (forest_of new).keys (memory_page new) row.root row.length
-      (subst (λ m. IsFileMemory m row.length) (sym puts.here ∙ tree_is_space new row.root some)
-      (piece-memory before whole (32 * number) bytes in-page row.length within (omega (arith, long))
-      (ends-by before row.length (subst (λ m. IsFileMemory m row.length) (sym (tree_is_space old row.root some)) (tree-memory (forest_of old).keys (memory_page old) row.root row.length (is.file some))))))
+      tree_put old new row.root row.length (32 * number) bytes whole in-page within puts some (omega (arith, long)) (memory_of_root old row.root row.length whole is.file)
 
   standing-now : Standing new
   standing-now = standing_with_tree old new row.root dir row puts.leaves is.there (has-tree row.kind is.kind) refl file-now bank all standing
 
   memory-now : ChangesMemory (machine_of old) (machine_of new) row.root
-  memory-now = leaves-memory old new row.root puts.leaves
+  memory-now = changes_memory old new row.root puts.leaves
 
   view-now : view (machine_of new) ≡ with_files (view (machine_of old)) (with_inode (files_in (machine_of old)) dir (inode_in (machine_of new) row))
   unfolding machine_of
@@ -97,8 +85,8 @@ module _ (old new : Kernel) (dir number : ℕ) (row : Inode) (bytes : List ℕ) 
 
   places-now : places_in (stored (machine_of new) row) (row.length / 32) ≡ set (places_seen old dir) number (place_in bytes)
   places-now =
-      ap (λ m. places_in (file_in m row.length) (row.length / 32)) puts.here
-      ∙ places-put before whole number bytes long row.length (row.length / 32) (omega arith) below
+      ap (λ xs. places_in xs (row.length / 32)) (bytes_put old new row.root row.length (32 * number) bytes whole in-page within puts)
+      ∙ places-put (bytes_stored old row) bytes number long (omega (arith, long, file-long before whole row.length)) (row.length / 32) below
       ∙ ap (λ places. set places number (place_in bytes)) (sym (places-are old dir row is))
 
   inode-now : inode_in (machine_of new) row ≡ model.Directory (parent_of (inode_seen old dir)) (set (places_seen old dir) number (place_in bytes))

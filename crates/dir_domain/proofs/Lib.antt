@@ -3,7 +3,7 @@ pub mod Searches
 pub mod Seen
 pub mod Names
 pub mod Entries
-pub mod TreeWrites
+pub mod PlaceWrites
 pub mod Changing
 pub mod Growing
 pub mod Stretching

@@ -1,7 +1,7 @@
 -- A directory that had no tree gets one, in which a place is written.
-use Rattle.std.proofs.Common.{◌≡◌, ◌≢◌, ℕ, ◌+◌, ◌*◌, ◌/◌, ◌<◌, ◌≤◌, Option, Some, None, List, [], length, drop, get_or, set, refl, ap, ap₂, sym, subst, ◌∙◌, arith}
+use Rattle.std.proofs.Common.{◌≡◌, ◌≢◌, ℕ, ◌+◌, ◌*◌, ◌/◌, ◌<◌, ◌≤◌, Option, Some, None, List, [], length, set, refl, ap, ap₂, sym, subst, ◌∙◌, arith}
 use Rattle.std.specs.Prelude.{◌%◌, slice_index_or}
-use Rattle.std.proofs.lemmas.List.{get_or-drop, length-drop, length-set}
+use Rattle.std.proofs.lemmas.List.{length-set}
 use Rattle.kn_base.specs.Memory.{zero_page}
 use Rattle.kernel_tables.specs.declared.inode.Inode.{Inode}
 use Rattle.kernel_tables.specs.declared.row.Row.TheVariants.{Used, Unspelled}
@@ -14,50 +14,34 @@ use Rattle.kernel_forest.specs.Trees.{forest_of, TreesGood}
 use Rattle.file_tables.specs.Roots.{named_by, ExchangesRoots}
 use Rattle.file_tables.specs.Rows.{InodesGood}
 use Rattle.unix_model.specs.Files as model
-use Rattle.unix_model.specs.Files.{Entry, parent_of}
+use Rattle.unix_model.specs.Files.{Entry}
 use Rattle.unix_model.specs.Memory.{Memory}
-use Rattle.unix_model.specs.Numbers.{pages_of}
 use Rattle.unix_model.specs.State.{with_files}
 use Rattle.unix_model.specs.Files.{with_inode}
 use Rattle.unix_model.specs.Tables.{at, with_at}
 use Rattle.user_copy.proofs.Pages.{memory_none}
-use Rattle.kernel_machine.specs.Contents.{file_in, pages_in, place_in, places_in}
+use Rattle.kernel_machine.specs.Contents.{file_in, place_in, places_in}
 use Rattle.kernel_machine.specs.Held.{AllWhole}
 use Rattle.kernel_machine.specs.Laws.{ChangesMemory}
 use Rattle.kernel_machine.specs.Machine.{KernelMachine, machine_of, inodes_of, held}
 use Rattle.kernel_machine.specs.Standing.{Standing}
-use Rattle.kernel_machine.specs.Trees.{IsFileTree, ends_in_zeros}
+use Rattle.kernel_machine.specs.Trees.{IsFileTree}
 use Rattle.kernel_machine.specs.View.{view, files_in, memory_in, stored}
 use Rattle.kernel_machine.proofs.MachineLaws.{inode_written}
-use Rattle.kernel_machine.proofs.PagesHeld.{pages-long, places-long}
+use Rattle.kernel_machine.proofs.PagesHeld.{file-long, places-long}
 use Rattle.file_trees.specs.Trees.{tree_memory, tree_page}
-use Rattle.file_trees.proofs.Contents.{WholeTree, pages_get}
+use Rattle.file_trees.proofs.Contents.{WholeTree}
+use Rattle.file_trees.proofs.FileMemory.{memory_empty}
+use Rattle.file_trees.proofs.FileTrees.{bytes_put, tree_put}
 use Rattle.file_trees.proofs.Pages.{tree_is_space, page_absent, page_none, zero_long}
 use Rattle.file_trees.proofs.Pieces.{space_some}
-use Rattle.file_trees.proofs.Rooting.{memory-same, root_stands, root_seen}
+use Rattle.file_trees.proofs.Rooting.{changes-now, root_stands, root_seen}
 use Rattle.dir_domain.specs.Changes.{ChangesPlaces, Plants, with_tree, places_for}
 use Rattle.dir_domain.specs.Rows.{IsDirectoryRow}
 use Rattle.dir_domain.proofs.Changing.{dir-in, has-tree, parent-seen}
-use Rattle.dir_domain.proofs.Growing.{blank-place, same-places, zero-all, zero-byte}
+use Rattle.dir_domain.proofs.Growing.{blank-place, same-places}
 use Rattle.dir_domain.proofs.Seen.{tree-whole}
-use Rattle.dir_domain.proofs.TreeWrites.{IsFileMemory, EndsBy, changes-by, memory-tree, piece-memory, places-put}
-
--- a memory without pages ends anywhere
-pub blank-ends : (memory : Memory) → WholeTree memory → ((number : ℕ) → tree_page memory number ≡ zero_page) → ((number : ℕ) → at memory number ≡ None) → (size : ℕ) → EndsBy memory size
-unfolding ends_in_zeros
-blank-ends memory whole blank none size = record {
-  within = λ number page is. absurd (let no : None ≡ Some page = sym (none number) ∙ is in cc);
-  writable = λ number page is. absurd (let no : None ≡ Some page = sym (none number) ∙ is in cc);
-  zeros =
-      let long : length (pages_in memory (pages_of size)) ≡ 4096 * pages_of size = pages-long memory whole (pages_of size) in
-      let short = length-drop size (pages_in memory (pages_of size)) in
-      zero-all (drop size (pages_in memory (pages_of size)))
-      (λ k below.
-      get_or-drop size (pages_in memory (pages_of size)) k 0
-      ∙ pages_get memory whole (pages_of size) (size + k) 0 (omega (arith, long, short))
-      ∙ ap (λ xs. get_or xs ((size + k) % 4096) 0) (blank ((size + k) / 4096))
-      ∙ zero-byte ((size + k) % 4096));
-}
+use Rattle.dir_domain.proofs.PlaceWrites.{places-put}
 
 -- the machine with another table of inodes
 with-table : (m1 m2 : KernelMachine) (space : ℕ) (t1 t2 : ℕ → Option Inode) → t2 ≡ t1 → ChangesMemory m1 m2 space → ChangesMemory (record m1 { inodes = t1 }) (record m2 { inodes = t2 }) space
@@ -113,34 +97,14 @@ module _ (old k2 : Kernel) (dir size number space : ℕ) (row : Inode) (bytes : 
 
   file-now : IsFileTree (forest_of k2).keys (memory_page k2) space size
   file-now =
-      memory-tree (forest_of k2).keys (memory_page k2) space size
-      (subst (λ m. IsFileMemory m size) (sym planted.puts.here ∙ tree_is_space k2 space some)
-      (piece-memory before whole (32 * number) bytes in-page size (omega (arith, long)) (omega (arith, long)) (blank-ends before whole blank empty size)))
-
-  changes-now : ChangesMemory (machine_of old) (machine_of k2) space
-  changes-now =
-      let leaves = planted.puts.leaves in
-      let adds = planted.adds in
-      changes-by old k2 space (λ mine alone. leaves.rows_now mine alone ∙ adds.rows_now mine alone)
-      (ap (λ (k : Kernel). k.inodes) leaves.rest ∙ ap (λ (k : Kernel). k.inodes) adds.rest)
-      (ap (λ (k : Kernel). k.descriptions) leaves.rest ∙ ap (λ (k : Kernel). k.descriptions) adds.rest)
-      (leaves.apart_now ∙ adds.apart_now)
-      (ap (λ (k : Kernel). k.size) leaves.rest ∙ ap (λ (k : Kernel). k.size) adds.rest)
-      (ap (λ (k : Kernel). k.machine.size) leaves.rest ∙ ap (λ (k : Kernel). k.machine.size) adds.rest)
-      (ap (λ (k : Kernel). k.machine.quantum) leaves.rest ∙ ap (λ (k : Kernel). k.machine.quantum) adds.rest)
-      (ap (λ (k : Kernel). k.machine.position) leaves.rest ∙ ap (λ (k : Kernel). k.machine.position) adds.rest)
-      (ap (λ (k : Kernel). k.machine.next_pid) leaves.rest ∙ ap (λ (k : Kernel). k.machine.next_pid) adds.rest)
-      (λ other differs is_space. memory-same old mid k2 space dir row rooted (λ page. None) adds leaves standing is.used inside (has-tree row.kind is.kind) none refl refl some other is_space)
+      tree_put mid k2 space size (32 * number) bytes whole in-page (omega (arith, long)) planted.puts some (omega (arith, long)) (memory_empty before empty size)
 
   inodes-now : k2.inodes ≡ old.inodes
   inodes-now = ap (λ (k : Kernel). k.inodes) planted.puts.leaves.rest ∙ ap (λ (k : Kernel). k.inodes) planted.adds.rest
 
-  bank-now : BankGood now
-  bank-now = record { sized = bank.sized; words = bank.words; pages = bank.pages; nodes = bank.nodes }
-
   standing-now : ExchangesRoots k2 now dir (Used rooted) → InodesGood now.inodes → AllWhole k2.bank → Standing now
   standing-now exchanges good all =
-      root_stands old mid k2 space dir row rooted (λ page. None) planted.adds planted.puts.leaves standing is.used inside (has-tree row.kind is.kind) none refl refl some exchanges good file-now bank-now all
+      root_stands old mid k2 space dir row rooted (λ page. None) planted.adds planted.puts.leaves standing is.used inside (has-tree row.kind is.kind) none refl refl some planted.good bank all exchanges good file-now
 
   machine-now : machine_of now ≡ record (machine_of k2) { inodes = with_at (inodes_of k2) dir (Some rooted) }
   machine-now = inode_written k2 now dir (Used rooted) (subst (λ rows. dir < length rows) (sym inodes-now) inside) refl
@@ -155,8 +119,8 @@ module _ (old k2 : Kernel) (dir size number space : ℕ) (row : Inode) (bytes : 
 
   places-now : places_in (stored (machine_of k2) rooted) (size / 32) ≡ places
   places-now =
-      ap (λ m. places_in (file_in m size) (size / 32)) planted.puts.here
-      ∙ places-put before whole number bytes long size (size / 32) (omega arith) below
+      ap (λ xs. places_in xs (size / 32)) (bytes_put mid k2 space size (32 * number) bytes whole in-page (omega (arith, long)) planted.puts)
+      ∙ places-put (file_in before size) bytes number long (omega (arith, file-long before whole size)) (size / 32) below
       ∙ ap (λ xs. set xs number (place_in bytes))
       (same-places (file_in before size) (file_in (tree_memory old row.root) size) (size / 32)
       (λ k under.
@@ -177,8 +141,9 @@ module _ (old k2 : Kernel) (dir size number space : ℕ) (row : Inode) (bytes : 
     there = is.there;
     machine = subst (λ n. ChangesMemory (with_tree (machine_of old) dir row space n) (machine_of now) space) (sym (size-now exact))
         (subst (λ (m : KernelMachine). ChangesMemory (with_tree (machine_of old) dir row space size) m space) (sym machine-now)
-        (with-table (machine_of old) (machine_of k2) space (with_at (inodes_of old) dir (Some rooted)) (with_at (inodes_of k2) dir (Some rooted)) table-now changes-now));
-    view = root_seen old mid k2 space dir row rooted (λ page. None) planted.adds planted.puts.leaves standing is.used inside (has-tree row.kind is.kind) none refl refl some changes-now
+        (with-table (machine_of old) (machine_of k2) space (with_at (inodes_of old) dir (Some rooted)) (with_at (inodes_of k2) dir (Some rooted)) table-now
+        (changes-now old mid k2 space dir row rooted (λ page. None) planted.adds planted.puts.leaves standing is.used inside (has-tree row.kind is.kind) none refl refl some)));
+    view = root_seen old mid k2 space dir row rooted (λ page. None) planted.adds planted.puts.leaves standing is.used inside (has-tree row.kind is.kind) none refl refl some
         ∙ ap (λ i. with_files (view (machine_of old)) (with_inode (files_in (machine_of old)) dir i))
         (dir-in (machine_of k2) rooted is.kind ∙ ap₂ model.Directory (sym (parent-seen old dir row is)) places-now);
     standing = standing-now (subst (λ (k : Kernel). ExchangesRoots k2 k dir (Used rooted)) e exchanges) (subst (λ (k : Kernel). InodesGood k.inodes) e good) all;

@@ -87,10 +87,6 @@ no-directory kernel dir is e =
 
 -- ---- the tree
 
-pub some-first : (size page : ℕ) → first_page size + page ≢ 0
-unfolding first_page
-some-first size page none = absurd (omega arith)
-
 -- page 0 stands for a page that isn't there
 pub no-tree : (kernel : Kernel) (root number : ℕ) → Standing kernel → root ≡ 0 → memory_page kernel 0 ≡ tree_page (tree_memory kernel root) number
 no-tree kernel root number standing none = standing.unused.zero ∙ sym (page_absent kernel root number none)

@@ -13,7 +13,7 @@ use Rattle.kernel_forest.specs.Trees.{forest_of}
 use Rattle.file_tables.specs.Roots.{ExchangesRoots}
 use Rattle.file_tables.specs.Rows.{InodesGood, IsInodeAt, IsOfKind, IsDirectory}
 use Rattle.unix_model.specs.Files as model
-use Rattle.unix_model.specs.Files.{Entry, Files, parent_of, with_inode, with_places}
+use Rattle.unix_model.specs.Files.{Entry, parent_of, with_inode, with_places}
 use Rattle.unix_model.specs.State.{Unix, with_files}
 use Rattle.unix_model.specs.Tables.{at, with_at}
 use Rattle.unix_model.proofs.TableLaws.{at-with_at, with_at-twice}
@@ -27,14 +27,11 @@ use Rattle.kernel_machine.proofs.MachineLaws.{inode_written}
 use Rattle.kernel_machine.proofs.MemoryLaws.{tree-of}
 use Rattle.kernel_machine.proofs.SetLaws.{inode_set}
 use Rattle.kernel_machine.proofs.StandingLaws.{standing_with_inode}
-use Rattle.file_trees.specs.Trees.{tree_memory}
-use Rattle.file_trees.proofs.Pages.{tree_is_space}
+use Rattle.file_trees.proofs.FileTrees.{tree_grown}
 use Rattle.dir_domain.specs.Changes.{ChangesPlaces, with_tree, places_for}
 use Rattle.dir_domain.specs.Rows.{IsDirectoryRow, places_seen, inode_seen}
 use Rattle.dir_domain.proofs.Changing.{dir-in, has-tree, parent-seen}
-use Rattle.dir_domain.proofs.Growing.{longer-memory}
 use Rattle.dir_domain.proofs.Seen.{places-are, tree-whole}
-use Rattle.dir_domain.proofs.TreeWrites.{IsFileMemory, tree-memory, memory-tree}
 
 -- a directory may have another root, and another length
 pub right-with : (dir : ℕ) (row : Inode) (root size : ℕ) → IsInodeAt dir row → row.kind ≡ Dir → size ≤ 32768 → size % 32 ≡ 0 → IsInodeAt dir (record row { root = root; length = size })
@@ -67,12 +64,7 @@ module _ (old : Kernel) (dir size : ℕ) (row : Inode) (standing : Standing old)
   of-file = (tree-of (forest_of old) (memory_page old) (page_owners old) row row.kind (standing.roots.each dir row is.there) (has-tree row.kind is.kind) some).1
 
   tree-now : IsFileTree (forest_of old).keys (memory_page old) row.root size
-  tree-now =
-      memory-tree (forest_of old).keys (memory_page old) row.root size
-      (subst (λ m. IsFileMemory m size) (tree_is_space old row.root some)
-      (longer-memory (tree_memory old row.root) (tree-whole old row.root standing is.tree) row.length
-      (subst (λ m. IsFileMemory m row.length) (sym (tree_is_space old row.root some)) (tree-memory (forest_of old).keys (memory_page old) row.root row.length (is.file some)))
-      size order))
+  tree-now = tree_grown old row.root row.length size some (tree-whole old row.root standing is.tree) order (is.file some)
 
   pub longer-stands : (new : Kernel) → new ≡ mid → ExchangesRoots old new dir (Used longer) → InodesGood new.inodes → Standing new
   longer-stands new e exchanges good =

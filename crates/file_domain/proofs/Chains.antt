@@ -15,7 +15,8 @@ use Rattle.unix_model.proofs.TableLaws.{at-with_at, with_at-same, with_at-twice}
 use Rattle.kernel_machine.specs.Machine.{KernelMachine, machine_of, inodes_of}
 use Rattle.kernel_machine.specs.View.{view, stored}
 use Rattle.file_domain.specs.Effects.{with_file, ChangesFile, PutsAt}
-use Rattle.file_domain.specs.Good.{FilesGood, IsFileAt}
+use Rattle.file_trees.specs.Good.{FilesGood}
+use Rattle.file_domain.specs.Good.{IsFileAt}
 use Rattle.file_domain.proofs.Seen.{seen_file, there_file}
 
 pub over_more : (xs : List ℕ) (place : ℕ) (first rest : List ℕ) → place + length first + length rest ≤ length xs

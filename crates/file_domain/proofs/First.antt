@@ -1,9 +1,8 @@
 -- The first piece of a file that has no tree: a tree is added, the piece is put, and the row gets its root.
-use Rattle.std.proofs.Common.{◌≡◌, ◌≢◌, ℕ, zero, suc, ◌+◌, ◌/◌, ◌%◌, ◌<◌, ◌≤◌, true, Option, Some, None, List, [], length, get_or, IsSome, refl, ap, sym, subst, ◌∙◌, arith}
+use Rattle.std.proofs.Common.{◌≡◌, ◌≢◌, ℕ, zero, suc, ◌+◌, ◌/◌, ◌%◌, ◌<◌, ◌≤◌, Option, Some, None, List, [], length, refl, ap, sym, subst, ◌∙◌, arith}
 use Rattle.kn_base.specs.declared.key.Key.TheVariants.{Null}
 use Rattle.kn_base.specs.Rows.{overwritten}
 use Rattle.kn_base.proofs.RowLaws.{length-overwritten}
-use Rattle.kernel_tables.specs.declared.entry.PageOwner.TheVariants.{Buffer, Pipe as PipePage}
 use Rattle.kernel_tables.specs.declared.inode.Inode.{Inode}
 use Rattle.kernel_tables.specs.declared.inode.InodeKind.TheVariants as kind
 use Rattle.kernel_tables.specs.declared.row.Row.{Row}
@@ -15,7 +14,7 @@ use Rattle.file_tables.specs.Roots.{ExchangesRoots, named_by}
 use Rattle.forest.specs.Calls.{AddsSpace}
 use Rattle.file_tables.specs.Rows.{InodesGood}
 use Rattle.forest.specs.Forest.{IsSpace}
-use Rattle.forest.specs.Objects.{NodeObject, OfFile}
+use Rattle.forest.specs.Objects.{OfFile}
 use Rattle.forest.specs.Walks.{Mapping, map_of}
 use Rattle.kernel_forest.proofs.GivingNodes.{unreleased}
 use Rattle.kernel_forest.proofs.RowLaws.{domains_apart, fixed_apart}
@@ -24,51 +23,46 @@ use Rattle.kernel_forest.specs.Releases.{KeepsUnreleased}
 use Rattle.kernel_forest.specs.Trees.{forest_of}
 use Rattle.seg_tree.specs.Promises.{Adds}
 use Rattle.seg_tree.proofs.Emptying.{unreleased_trans}
+use Rattle.unix_model.specs.Files.{File, with_inode}
 use Rattle.unix_model.specs.Memory.{Memory}
 use Rattle.unix_model.specs.Room.{promised}
+use Rattle.unix_model.specs.State.{Unix, with_files}
 use Rattle.unix_model.specs.Tables.{at, with_at, nothing}
-use Rattle.unix_model.proofs.TableLaws.{at-with_at}
 use Rattle.user_copy.specs.SpaceMemory.{memory_by}
 use Rattle.domain.specs.Domains.{domain_at, roots_by}
 use Rattle.kernel_machine.specs.Contents.{file_in, mapped_bytes}
 use Rattle.kernel_machine.specs.Held.{AllWhole}
-use Rattle.kernel_machine.specs.Loose.{Nothing, Tree, StandingBut, root_of, word_of}
+use Rattle.kernel_machine.specs.Loose.{Tree, StandingBut}
 use Rattle.kernel_machine.specs.Machine.{KernelMachine, machine_of}
-use Rattle.kernel_machine.specs.Standing.{Standing, page_owners}
-use Rattle.kernel_machine.specs.Trees.{IsFileTree, IsRootOf}
-use Rattle.kernel_machine.specs.View.{view, stored, file_memory, memory_in}
+use Rattle.kernel_machine.specs.Standing.{Standing}
+use Rattle.kernel_machine.specs.Trees.{IsFileTree}
+use Rattle.kernel_machine.specs.View.{view, stored, file_memory, files_in, inodes_in, descriptions_in}
 use Rattle.kernel_machine.proofs.AddStands.{standing_with_space}
-use Rattle.kernel_machine.proofs.LooseLaws.{nothing_loose, tree-word}
 use Rattle.kernel_machine.proofs.MachineLaws.{inode_written}
 use Rattle.kernel_machine.proofs.PagesHeld.{file-long}
-use Rattle.kernel_machine.proofs.RootStands.{standing_with_root}
-use Rattle.kernel_machine.proofs.SpacesStand.{standing_with_loose}
 use Rattle.file_trees.specs.FileMemory.{IsFileMemory}
 use Rattle.file_trees.specs.Pieces.{PutsInTree, MayBeWritten}
-use Rattle.file_trees.specs.Trees.{tree_memory, tree_page}
+use Rattle.file_trees.specs.Trees.{tree_memory}
 use Rattle.file_trees.proofs.Contents.{WholeTree}
-use Rattle.file_trees.proofs.FileMemory.{file_put, memory_put, put_whole, zero_get}
-use Rattle.file_trees.proofs.FileTrees.{memory_to_tree}
+use Rattle.file_trees.proofs.FileMemory.{memory_empty}
+use Rattle.file_trees.proofs.FileTrees.{bytes_put, tree_put}
 use Rattle.file_trees.proofs.Pages.{tree_is_space, zero_long}
 use Rattle.file_trees.proofs.Pieces.{space_some}
+use Rattle.file_trees.proofs.Rooting.{root_stands, root_seen}
+use Rattle.file_trees.proofs.Views.{state-now}
 use Rattle.file_domain.specs.Effects.{with_file, PutsAt}
-use Rattle.file_domain.specs.Good.{FilesGood, IsFileAt}
+use Rattle.file_trees.specs.Good.{FilesGood}
+use Rattle.file_domain.specs.Good.{IsFileAt}
 use Rattle.file_domain.proofs.Keeping.{accounted_still, same_promise}
-use Rattle.file_domain.proofs.Kept.{KeepsMemories, view_kept}
 use Rattle.file_domain.proofs.Puts.{has-tree}
-use Rattle.file_domain.proofs.Rows.{with_row, row_there, row_all, row_seen}
+use Rattle.file_domain.proofs.Rows.{with_row, row_there, row_all, seen_row}
 use Rattle.file_domain.proofs.Seen.{seen_file}
-use Rattle.file_domain.proofs.Views.{state-now, bytes-apart}
 
 -- no tree has no pages
 no_pages : (kernel : Kernel) (root : ℕ) → root ≡ 0 → tree_memory kernel root ≡ nothing
 unfolding file_memory
 no_pages kernel zero e = refl
 no_pages kernel (suc root) e = absurd (omega arith)
-
-none-some : {O : Type 0} (owner : Option O) → None ≡ owner → IsSome owner → ⊥
-none-some None e some = cc
-none-some (Some owner) e some = cc
 
 module _ (k0 k1 : Kernel) (number root : ℕ) (inode : Inode) (good : FilesGood k0) (file : IsFileAt k0 number inode) (none : inode.root ≡ 0)
     (adds : Adds k0 k1 root (Some OfFile) Null (λ page. None)) (bank1 : BankGood k1) where
@@ -103,11 +97,7 @@ module _ (k0 k1 : Kernel) (number root : ℕ) (inode : Inode) (good : FilesGood 
   whole1 n = ap (λ page. length (mapped_bytes page)) (absent1 n) ∙ zero_long
 
   memory1 : (size : ℕ) → IsFileMemory (tree_memory k1 root) size
-  memory1 size = record {
-    within = λ n page there. let no : None ≡ Some page = sym (absent1 n) ∙ there in cc;
-    writable = λ n page there. let no : None ≡ Some page = sym (absent1 n) ∙ there in cc;
-    zeros = λ i past. ap (λ page. get_or (mapped_bytes page) (i % 4096) 0) (absent1 (i / 4096)) ∙ zero_get (i % 4096) (omega arith);
-  }
+  memory1 size = memory_empty (tree_memory k1 root) absent1 size
 
   module _ (k2 : Kernel) (place : ℕ) (bytes : List ℕ) (below : number < 1024) (all : length k0.inodes ≡ 1024) (any : 0 < length bytes) (inside : place % 4096 + length bytes ≤ 4096) (within : place + length bytes ≤ inode.length)
       (put : PutsInTree k1 k2 root place bytes) (bank2 : BankGood k2) (pages2 : AllWhole k2.bank) where
@@ -138,64 +128,28 @@ module _ (k0 k1 : Kernel) (number root : ℕ) (inode : Inode) (good : FilesGood 
     pub file2 : IsFileAt k2 number inode
     file2 = record { there = ap (λ (rows : List (Row Inode)). inode_at (record k0 { inodes = rows }) number) inodes2 ∙ file.there; kind = file.kind }
 
-    pub standing2 : StandingBut k2 (Tree root)
-    standing2 = standing_with_loose k1 k2 root OfFile put.leaves bank2 pages2 standing1
-
-    whole2 : WholeTree (tree_memory k2 root)
-    whole2 n = ap (λ (m : Memory). length (tree_page m n)) put.here ∙ put_whole (tree_memory k1 root) inode.length place bytes whole1 inside within n
-
-    memory2 : IsFileMemory (tree_memory k2 root) inode.length
-    memory2 = subst (λ (m : Memory). IsFileMemory m inode.length) (sym put.here) (memory_put (tree_memory k1 root) inode.length place bytes whole1 inside within any (memory1 inode.length))
-
     tree2 : IsFileTree (forest_of k2).keys (memory_page k2) root inode.length
-    tree2 = memory_to_tree k2 root inode.length some1 whole2 (place / 4096) _
-        (ap (λ (m : Memory). at m (place / 4096)) put.here ∙ at-with_at (tree_memory k1 root) (place / 4096) (Some (record { writable = true; bytes = overwritten (tree_page (tree_memory k1 root) (place / 4096)) (place % 4096) bytes }))) memory2
+    tree2 = tree_put k1 k2 root inode.length place bytes whole1 inside within put some1 any (memory1 inode.length)
 
-    root2 : IsRootOf (forest_of k2) (memory_page k2) (page_owners k2) row kind.File
-    root2 = λ some. (standing2.is_loose.taken.0, standing2.is_loose.taken.1, tree2)
-
-    was-nothing : root_of (inode_at k2 number) ≡ Nothing
-    was-nothing = ap root_of file2.there ∙ ap (word_of inode.kind) none ∙ ap (λ k. word_of k 0) file.kind
+    number_inside : number < length k0.inodes
+    number_inside = omega (arith, all)
 
     standing3 : ExchangesRoots k2 k3 number (Used row) → InodesGood k3.inodes → Standing k3
     standing3 exchanges rows =
-        (nothing_loose k3).1 (subst (StandingBut k3) was-nothing
-        (standing_with_root k2 k3 number (Used row) (let rows_all = all2 in omega arith) refl exchanges rows (subst (IsRootOf (forest_of k2) (memory_page k2) (page_owners k2) row) (sym file.kind) root2)
-        (subst (StandingBut k2) (sym (tree-word inode.kind root (has-tree inode.kind file.kind) some1)) standing2)))
+        root_stands k0 k1 k2 root number inode row (λ page. None) adds put.leaves good.standing file.there number_inside (has-tree inode.kind file.kind) none refl refl some1 bank1 bank2 pages2 exchanges rows tree2
 
     -- ---- what is seen
 
-    none-owned : {P : Type 0} (other : ℕ) → IsSpace (forest_of k0) [] other → None ≡ (forest_of k0).owner (NodeObject other) → P
-    none-owned other is e = absurd (none-some ((forest_of k0).owner (NodeObject other)) e is.owned)
-
-    kept : KeepsMemories (machine_of k0) (machine_of k2)
-    unfolding machine_of memory_in at
-    kept = record {
-      rest = state-now k0 k2 rest02 rows02 apart02;
-      memories = λ other is.
-          let apart : other ≢ root = λ same. none-owned other is (sym added.fresh ∙ ap (λ n. (forest_of k0).owner (NodeObject n)) (sym same)) in
-          put.leaves.memories other (added.others.stay other is apart) apart
-          ∙ ap (λ (b : ℕ → List ℕ). memory_by b (map_of (forest_of k1).keys other)) (ap memory_page adds.rest)
-          ∙ ap (memory_by (memory_page k0)) (added.others.maps other is apart);
-      buffers = λ page owned. bytes-apart k0 k2 rest02 rows02 apart02 page Buffer refl owned;
-      pipes = λ page owned. bytes-apart k0 k2 rest02 rows02 apart02 page PipePage refl owned;
-    }
-
-    seen2 : view (machine_of k2) ≡ view (machine_of k0)
-    unfolding machine_of
-    seen2 = view_kept (machine_of k0) (machine_of k2) good.standing.holdings good.standing.roots kept
-
     bytes2 : stored (machine_of k2) row ≡ overwritten (stored (machine_of k0) inode) place bytes
     bytes2 =
-        ap (λ (m : Memory). file_in m inode.length) put.here
-        ∙ file_put (tree_memory k1 root) inode.length place bytes whole1 inside within
+        bytes_put k1 k2 root inode.length place bytes whole1 inside within put
         ∙ ap (λ (m : Memory). overwritten (file_in m inode.length) place bytes) (empty ∙ sym (no_pages k0 inode.root none))
 
     file_seen : view (machine_of k3) ≡ with_file (view (machine_of k0)) number (overwritten (stored (machine_of k0) inode) place bytes)
+    unfolding view inodes_in descriptions_in
     file_seen =
-        row_seen k2 number inode row all2 below file2 file.kind
-        ∙ ap (λ unix. with_file unix number (stored (machine_of k2) row)) seen2
-        ∙ ap (with_file (view (machine_of k0)) number) bytes2
+        root_seen k0 k1 k2 root number inode row (λ page. None) adds put.leaves good.standing file.there number_inside (has-tree inode.kind file.kind) none refl refl some1
+        ∙ ap (λ seen. let unix : Unix = with_files (view (machine_of k0)) (with_inode (files_in (machine_of k0)) number seen) in unix) (seen_row k2 row file.kind ∙ ap File bytes2)
 
     long : length (stored (machine_of k0) inode) ≡ inode.length
     long = ap (λ (m : Memory). length (file_in m inode.length)) (no_pages k0 inode.root none ∙ sym empty) ∙ file-long (tree_memory k1 root) whole1 inode.length

@@ -1,6 +1,6 @@
 -- A file gets longer: its promise and its row are written.
-use Rattle.std.proofs.Common.{◌≡◌, ℕ, zero, suc, ◌+◌, ◌-◌, ◌<◌, ◌≤◌, true, Some, None, List, length, get_or, ◌/◌, ◌%◌, refl, ap, sym, subst, ◌∙◌, arith, ⊎_elim}
-use Rattle.std.proofs.lemmas.Bool.{cases_eq, le-leb, lt-leb}
+use Rattle.std.proofs.Common.{◌≡◌, ℕ, zero, suc, ◌+◌, ◌-◌, ◌<◌, ◌≤◌, true, Some, List, length, refl, ap, sym, subst, ◌∙◌, arith}
+use Rattle.std.proofs.lemmas.Bool.{le-leb, lt-leb}
 use Rattle.kernel_tables.specs.declared.inode.Inode.{Inode}
 use Rattle.kernel_tables.specs.declared.inode.InodeKind.TheVariants as kind
 use Rattle.kernel_tables.specs.declared.row.Row.TheVariants.{Used}
@@ -13,8 +13,7 @@ use Rattle.unix_model.specs.FileCalls.{resized}
 use Rattle.unix_model.specs.Memory.{Memory}
 use Rattle.unix_model.specs.Numbers.{pages_of}
 use Rattle.unix_model.specs.Room.{promised, has_room}
-use Rattle.unix_model.specs.Tables.{at, nothing, with_at}
-use Rattle.user_copy.specs.SpaceMemory.{page_of}
+use Rattle.unix_model.specs.Tables.{with_at}
 use Rattle.kernel_machine.specs.Contents.{file_in}
 use Rattle.kernel_machine.specs.Machine.{machine_of, inodes_of, descriptions_of}
 use Rattle.kernel_machine.specs.Standing.{Standing, page_owners}
@@ -25,11 +24,11 @@ use Rattle.kernel_machine.proofs.PagesHeld.{file-long}
 use Rattle.file_trees.specs.FileMemory.{IsFileMemory}
 use Rattle.file_trees.specs.Trees.{tree_memory}
 use Rattle.file_trees.proofs.Contents.{WholeTree}
-use Rattle.file_trees.proofs.FileMemory.{file_grown, memory_grown, zero_get}
-use Rattle.file_trees.proofs.FileTrees.{tree_to_memory, memory_to_tree, there_found}
-use Rattle.file_trees.proofs.Pages.{page_absent}
+use Rattle.file_trees.proofs.FileMemory.{file_grown}
+use Rattle.file_trees.proofs.FileTrees.{memory_of_root, tree_grown}
 use Rattle.file_domain.specs.Effects.{with_file, Resizes, NoRoom}
-use Rattle.file_domain.specs.Good.{FilesGood, IsFileAt}
+use Rattle.file_trees.specs.Good.{FilesGood}
+use Rattle.file_domain.specs.Good.{IsFileAt}
 use Rattle.file_domain.proofs.Keeping.{accounted_still, promised_file}
 use Rattle.file_domain.proofs.Rows.{promising, with_row, promise_unseen, promise_stands, row_there, row_all, row_seen, row_stands}
 use Rattle.file_domain.proofs.Seen.{seen_file, file_root}
@@ -40,24 +39,10 @@ unfolding file_memory memory_in machine_of
 same_tree kernel pages zero = refl
 same_tree kernel pages (suc root) = refl
 
--- where no tree is, no page is there
-pub memory_absent : (kernel : Kernel) (root number : ℕ) → root ≡ 0 → at (tree_memory kernel root) number ≡ None
-unfolding file_memory nothing at
-memory_absent kernel zero number e = refl
-memory_absent kernel (suc root) number e = absurd (omega arith)
-
 -- the memory of the tree of a file
 pub memory_of_file : (kernel : Kernel) (number : ℕ) (inode : Inode) → Standing kernel → IsFileAt kernel number inode → WholeTree (tree_memory kernel inode.root)
     → IsFileMemory (tree_memory kernel inode.root) inode.length
-memory_of_file kernel number inode standing file whole = ⊎_elim
-    (λ (t : inode.root ≡ 0).
-    record {
-      within = λ n page there. let no : None ≡ Some page = sym (memory_absent kernel inode.root n t) ∙ there in cc;
-      writable = λ n page there. let no : None ≡ Some page = sym (memory_absent kernel inode.root n t) ∙ there in cc;
-      zeros = λ i past. ap (λ page. get_or page (i % 4096) 0) (page_absent kernel inode.root (i / 4096) t) ∙ zero_get (i % 4096) (omega arith);
-    })
-    (λ (some : inode.root ≡ 0 → ⊥). tree_to_memory kernel inode.root inode.length some whole (file_root kernel number inode standing file some).2)
-    (cases_eq inode.root 0)
+memory_of_file kernel number inode standing file whole = memory_of_root kernel inode.root inode.length whole (λ some. (file_root kernel number inode standing file some).2)
 
 module _ (k0 : Kernel) (number size more : ℕ) (inode : Inode) (good : FilesGood k0) (below : number < 1024) (file : IsFileAt k0 number inode) (order : inode.length ≤ size) (whole : WholeTree (tree_memory k0 inode.root))
     (all : length k0.inodes ≡ 1024) (more_is : more ≡ pages_of size - pages_of inode.length) where
@@ -123,12 +108,7 @@ module _ (k0 : Kernel) (number size more : ℕ) (inode : Inode) (good : FilesGoo
   root1 : IsRootOf (forest_of k1) (memory_page k1) (page_owners k1) row kind.File
   root1 some =
       let was = file_root k0 number inode good.standing file some in
-      let t = was.2.some_page in (
-        was.0,
-        was.1,
-        memory_to_tree k0 inode.root size some whole t.0 (page_of (memory_page k0) t.1) (there_found k0 inode.root t.0 t.1 some t.2)
-            (memory_grown (tree_memory k0 inode.root) inode.length size is_memory order),
-      )
+      (was.0, was.1, tree_grown k0 inode.root inode.length size some whole order was.2)
 
   seen : view (machine_of k2) ≡ with_file (view (machine_of k0)) number bytes_now
   seen =

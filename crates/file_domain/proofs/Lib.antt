@@ -2,10 +2,7 @@ pub mod Seen
 pub mod Keeping
 pub mod Rows
 pub mod Growth
-pub mod SharedFiles
-pub mod Views
 pub mod Puts
-pub mod Kept
 pub mod First
 pub mod Chains
 pub mod WriteLaws

@@ -17,7 +17,8 @@ use Rattle.unix_model.proofs.TableLaws.{at-with_at}
 use Rattle.kernel_machine.specs.Machine.{machine_of}
 use Rattle.kernel_machine.specs.View.{view, stored}
 use Rattle.file_domain.specs.Effects.{with_file, part_within, with_part_written, with_bytes_written, ChangesFile, NoRoom, PutsAt, Resizes, Writes, WritesBy, WritesPart}
-use Rattle.file_domain.specs.Good.{FilesGood, IsFileAt}
+use Rattle.file_trees.specs.Good.{FilesGood}
+use Rattle.file_domain.specs.Good.{IsFileAt}
 use Rattle.file_domain.proofs.Chains.{changes_more, changes_nothing, file_twice, one_row}
 use Rattle.file_domain.proofs.Keeping.{promised_file}
 use Rattle.file_domain.proofs.Seen.{seen_file}

@@ -1,5 +1,5 @@
 -- A piece is put into a file whose tree is there.
-use Rattle.std.proofs.Common.{◌≡◌, ◌≢◌, ℕ, ◌+◌, ◌/◌, ◌%◌, ◌<◌, ◌≤◌, true, Some, List, length, refl, ap, sym, subst, ◌∙◌, arith}
+use Rattle.std.proofs.Common.{◌≡◌, ◌≢◌, ℕ, ◌+◌, ◌/◌, ◌%◌, ◌<◌, ◌≤◌, Some, List, length, refl, ap, sym, ◌∙◌, arith}
 use Rattle.kn_base.specs.Rows.{overwritten}
 use Rattle.kernel_tables.specs.declared.inode.Inode.{Inode}
 use Rattle.kernel_tables.specs.declared.inode.InodeKind.{InodeKind}
@@ -13,15 +13,13 @@ use Rattle.kn_base.proofs.RowLaws.{length-overwritten}
 use Rattle.kernel_forest.specs.Trees.{forest_of}
 use Rattle.kernel_tables.specs.Rows.{of_domain, is_fixed}
 use Rattle.kernel_forest.proofs.RowLaws.{domains_apart, fixed_apart}
-use Rattle.unix_model.specs.Memory.{Memory}
 use Rattle.unix_model.specs.Room.{promised}
 use Rattle.unix_model.specs.State.{Unix, with_files}
 use Rattle.unix_model.specs.Files.{File, with_inode}
 use Rattle.unix_model.specs.Numbers.{pages_of}
-use Rattle.unix_model.specs.Tables.{at, with_at}
-use Rattle.unix_model.proofs.TableLaws.{at-with_at, with_at-same}
+use Rattle.unix_model.specs.Tables.{with_at}
+use Rattle.unix_model.proofs.TableLaws.{with_at-same}
 use Rattle.domain.specs.Domains.{domain_at, roots_by}
-use Rattle.kernel_machine.specs.Contents.{file_in}
 use Rattle.kernel_machine.specs.Held.{AllWhole}
 use Rattle.kernel_machine.specs.Machine.{KernelMachine, machine_of, inodes_of}
 use Rattle.kernel_machine.specs.Standing.{Standing}
@@ -33,18 +31,18 @@ use Rattle.kernel_machine.proofs.MemoryLaws.{tree_changed}
 use Rattle.kernel_machine.proofs.SpacesStand.{standing_with_tree}
 use Rattle.file_trees.specs.FileMemory.{IsFileMemory}
 use Rattle.file_trees.specs.Pieces.{PutsInTree, MayBeWritten}
-use Rattle.file_trees.specs.Trees.{tree_memory, tree_page}
+use Rattle.file_trees.specs.Trees.{tree_memory}
 use Rattle.file_trees.proofs.Contents.{WholeTree}
-use Rattle.file_trees.proofs.FileMemory.{file_put, memory_put, put_whole}
-use Rattle.file_trees.proofs.FileTrees.{memory_to_tree}
+use Rattle.file_trees.proofs.FileTrees.{bytes_put, tree_put}
 use Rattle.file_domain.specs.Effects.{with_file, PutsAt}
-use Rattle.file_domain.specs.Good.{FilesGood, IsFileAt}
+use Rattle.file_trees.specs.Good.{FilesGood}
+use Rattle.file_domain.specs.Good.{IsFileAt}
 use Rattle.file_domain.proofs.Growth.{memory_of_file}
 use Rattle.file_domain.proofs.Keeping.{accounted_still, promised_file}
 use Rattle.file_domain.proofs.Rows.{seen_row}
 use Rattle.file_domain.proofs.Seen.{there_file, file_root, seen_file}
-use Rattle.file_domain.proofs.SharedFiles.{file_page_left}
-use Rattle.file_domain.proofs.Views.{changes_memory, state-now}
+use Rattle.file_trees.proofs.SharedFiles.{file_page_left}
+use Rattle.file_trees.proofs.Views.{changes_memory, state-now}
 
 pub has-tree : (k : InodeKind) → k ≡ kind.File → HasTree k
 has-tree kind.File e = tt
@@ -61,15 +59,8 @@ module _ (k0 k1 : Kernel) (number place : ℕ) (bytes : List ℕ) (inode : Inode
   was_memory : IsFileMemory (tree_memory k0 inode.root) inode.length
   was_memory = memory_of_file k0 number inode good.standing file whole
 
-  now_whole : WholeTree (tree_memory k1 inode.root)
-  now_whole n = ap (λ (m : Memory). length (tree_page m n)) put.here ∙ put_whole (tree_memory k0 inode.root) inode.length place bytes whole inside within n
-
-  now_memory : IsFileMemory (tree_memory k1 inode.root) inode.length
-  now_memory = subst (λ (m : Memory). IsFileMemory m inode.length) (sym put.here) (memory_put (tree_memory k0 inode.root) inode.length place bytes whole inside within any was_memory)
-
   now_tree : IsFileTree (forest_of k1).keys (memory_page k1) inode.root inode.length
-  now_tree = memory_to_tree k1 inode.root inode.length some now_whole (place / 4096) _
-      (ap (λ (m : Memory). at m (place / 4096)) put.here ∙ at-with_at (tree_memory k0 inode.root) (place / 4096) (Some (record { writable = true; bytes = overwritten (tree_page (tree_memory k0 inode.root) (place / 4096)) (place % 4096) bytes }))) now_memory
+  now_tree = tree_put k0 k1 inode.root inode.length place bytes whole inside within put some any was_memory
 
   file_now : IsFileAt k1 number inode
   file_now = record { there = ap (λ rows. inode_in_rows rows) inodes_same ∙ file.there; kind = file.kind }
@@ -84,7 +75,7 @@ module _ (k0 k1 : Kernel) (number place : ℕ) (bytes : List ℕ) (inode : Inode
       (changes_memory k0 k1 inode.root put.leaves)
 
   bytes_now : stored (machine_of k1) inode ≡ overwritten (stored (machine_of k0) inode) place bytes
-  bytes_now = ap (λ (m : Memory). file_in m inode.length) put.here ∙ file_put (tree_memory k0 inode.root) inode.length place bytes whole inside within
+  bytes_now = bytes_put k0 k1 inode.root inode.length place bytes whole inside within put
 
   pub seen_now : view (machine_of k1) ≡ with_file (view (machine_of k0)) number (overwritten (stored (machine_of k0) inode) place bytes)
   unfolding view inodes_in descriptions_in

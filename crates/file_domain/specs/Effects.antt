@@ -15,7 +15,8 @@ use Rattle.unix_model.specs.State.{Unix, with_files}
 use Rattle.unix_model.specs.Tables.{with_at}
 use Rattle.kernel_machine.specs.Machine.{machine_of}
 use Rattle.kernel_machine.specs.View.{view, stored}
-use Rattle.file_domain.specs.Good.{FilesGood, IsFileAt}
+use Rattle.file_trees.specs.Good.{FilesGood}
+use Rattle.file_domain.specs.Good.{IsFileAt}
 
 -- Bytes of a file were read from a place on, as many as there are and as there was room for; the rest of the room is as it was.
 pub record Reads (bytes : List ℕ) (place : ℕ) (old new : List ℕ) (count : ℕ) : Type 0 where

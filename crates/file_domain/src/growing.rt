@@ -7,7 +7,8 @@ ghost use Rattle.kernel_tables.specs.Kernel.{Kernel, kernel_of, Sized, IsSized, 
 ghost use Rattle.unix_model.specs.declared.calls.Errno.{Errno};
 ghost use Rattle.unix_model.specs.declared.calls.Errno.TheVariants.{Enospc};
 ghost use Rattle.unix_model.specs.Numbers.{pages_of};
-ghost use Rattle.file_domain.specs.Good.{FilesGood, IsFileAt};
+ghost use Rattle.file_trees.specs.Good.{FilesGood};
+ghost use Rattle.file_domain.specs.Good.{IsFileAt};
 ghost use Rattle.file_domain.specs.Effects.{Resizes, NoRoom};
 
 use file_tables::{Inode, set_inode};

@@ -1,5 +1,5 @@
 -- The bytes of a file by the pages of its memory, and how they change with these.
-use Rattle.std.proofs.Common.{◌≡◌, ◌≢◌, ℕ, ◌+◌, ◌-◌, ◌/◌, ◌%◌, ◌<◌, ◌≤◌, true, Some, List, ◌++◌, length, take, replicate, get_or, ap, sym, ◌∙◌, arith, ⊎_elim, ◌⊎◌, inl, inr, take_all}
+use Rattle.std.proofs.Common.{◌≡◌, ◌≢◌, ℕ, ◌+◌, ◌-◌, ◌/◌, ◌%◌, ◌<◌, ◌≤◌, true, Some, None, List, ◌++◌, length, take, replicate, get_or, ap, sym, ◌∙◌, arith, ⊎_elim, ◌⊎◌, inl, inr, take_all}
 use Rattle.std.proofs.lemmas.Bool.{cases_eq, cases_lt}
 use Rattle.std.proofs.lemmas.Grind.{same_number_lists}
 use Rattle.std.proofs.lemmas.List.{length-append, length-replicate, get_or_append_left, get_or-append_right, get_or-replicate}
@@ -47,6 +47,14 @@ memory_grown memory size more is order = record {
   within = λ number page there. let low = is.within number page there in omega arith;
   writable = is.writable;
   zeros = λ i past. is.zeros i (omega arith);
+}
+
+-- a memory without pages is one of any length
+pub memory_empty : (memory : Memory) → ((number : ℕ) → at memory number ≡ None) → (size : ℕ) → IsFileMemory memory size
+memory_empty memory none size = record {
+  within = λ number page there. let no : None ≡ Some page = sym (none number) ∙ there in cc;
+  writable = λ number page there. let no : None ≡ Some page = sym (none number) ∙ there in cc;
+  zeros = λ i past. ap (λ page. get_or (mapped_bytes page) (i % 4096) 0) (none (i / 4096)) ∙ zero_get (i % 4096) (omega arith);
 }
 
 -- ---- a piece is put

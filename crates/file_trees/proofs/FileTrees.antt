@@ -1,24 +1,28 @@
 -- The tree of a file, by its memory.
-use Rattle.std.proofs.Common.{◌≡◌, ◌≢◌, ℕ, zero, suc, ◌+◌, ◌-◌, ◌*◌, ◌/◌, ◌%◌, ◌<◌, ◌≤◌, ◌&&◌, ◌==◌, Bool, true, false, Option, Some, None, List, [], ◌∷◌, length, drop, length-drop, get_or, refl, ap, sym, ◌∙◌, arith, ⊎_elim}
+use Rattle.std.proofs.Common.{◌≡◌, ◌≢◌, ℕ, zero, suc, ◌+◌, ◌-◌, ◌*◌, ◌/◌, ◌%◌, ◌<◌, ◌≤◌, ◌&&◌, ◌==◌, Bool, true, false, Option, Some, None, List, [], ◌∷◌, length, drop, length-drop, get_or, refl, ap, sym, subst, ◌∙◌, arith, ⊎_elim}
 use Rattle.std.specs.List.{list_all}
 use Rattle.std.specs.Prelude.{option_map}
-use Rattle.std.proofs.lemmas.Bool.{cases_lt, eqb-true, eq-eqb}
+use Rattle.std.proofs.lemmas.Bool.{cases_eq, cases_lt, eqb-true, eq-eqb}
 use Rattle.std.proofs.lemmas.List.{get_or-drop}
+use Rattle.kn_base.specs.Rows.{overwritten}
 use Rattle.kernel_tables.specs.Kernel.{Kernel, memory_page}
 use Rattle.unix_model.specs.Memory.{Memory, Page}
 use Rattle.unix_model.specs.Numbers.{pages_of}
-use Rattle.unix_model.specs.Tables.{at}
+use Rattle.unix_model.specs.Tables.{at, nothing}
+use Rattle.unix_model.proofs.TableLaws.{at-with_at}
 use Rattle.forest.specs.Walks.{Mapping, map_of}
 use Rattle.kernel_forest.specs.Trees.{forest_of}
 use Rattle.user_copy.specs.SpaceMemory.{page_of, space_memory}
 use Rattle.user_copy.proofs.Pages.{memory_is, memory_found}
-use Rattle.kernel_machine.specs.Contents.{pages_in, mapped_bytes}
+use Rattle.kernel_machine.specs.Contents.{file_in, pages_in, mapped_bytes}
 use Rattle.kernel_machine.specs.Trees.{IsFileTree, ends_in_zeros}
+use Rattle.kernel_machine.specs.View.{file_memory}
 use Rattle.kernel_machine.proofs.PagesHeld.{pages-long}
-use Rattle.file_trees.specs.Trees.{tree_memory}
+use Rattle.file_trees.specs.Pieces.{PutsInTree}
+use Rattle.file_trees.specs.Trees.{tree_memory, tree_page}
 use Rattle.file_trees.specs.FileMemory.{byte_in, IsFileMemory}
 use Rattle.file_trees.proofs.Contents.{WholeTree, pages_get}
-use Rattle.file_trees.proofs.FileMemory.{zero_get}
+use Rattle.file_trees.proofs.FileMemory.{file_put, memory_empty, memory_grown, memory_put, put_whole, zero_get}
 use Rattle.file_trees.proofs.Pages.{tree_is_space}
 
 -- ---- lists of zeros
@@ -110,3 +114,40 @@ module _ (kernel : Kernel) (root size : ℕ) (some : root ≢ 0) (whole : WholeT
         ∙ pages_get memory whole (pages_of size) (size + k) 0 inside
         ∙ is.zeros (size + k) (omega arith));
   }
+
+-- where no tree is, no page is there
+pub memory_absent : (kernel : Kernel) (root number : ℕ) → root ≡ 0 → at (tree_memory kernel root) number ≡ None
+unfolding file_memory nothing at
+memory_absent kernel zero number e = refl
+memory_absent kernel (suc root) number e = absurd (omega arith)
+
+-- the memory of a root word
+pub memory_of_root : (kernel : Kernel) (root size : ℕ) → WholeTree (tree_memory kernel root) → (root ≢ 0 → IsFileTree (forest_of kernel).keys (memory_page kernel) root size)
+    → IsFileMemory (tree_memory kernel root) size
+memory_of_root kernel root size whole tree = ⊎_elim
+    (λ (t : root ≡ 0). memory_empty (tree_memory kernel root) (λ number. memory_absent kernel root number t) size)
+    (λ (some : root ≡ 0 → ⊥). tree_to_memory kernel root size some whole (tree some))
+    (cases_eq root 0)
+
+-- the tree of a file is that of a longer one
+pub tree_grown : (kernel : Kernel) (root size more : ℕ) → root ≢ 0 → WholeTree (tree_memory kernel root) → size ≤ more → IsFileTree (forest_of kernel).keys (memory_page kernel) root size
+    → IsFileTree (forest_of kernel).keys (memory_page kernel) root more
+tree_grown kernel root size more some whole order tree =
+    let t = tree.some_page in
+    memory_to_tree kernel root more some whole t.0 (page_of (memory_page kernel) t.1) (there_found kernel root t.0 t.1 some t.2)
+    (memory_grown (tree_memory kernel root) size more (tree_to_memory kernel root size some whole tree) order)
+
+-- a piece was put into a tree
+module _ (old new : Kernel) (root size place : ℕ) (bytes : List ℕ) (whole : WholeTree (tree_memory old root)) (inside : place % 4096 + length bytes ≤ 4096) (within : place + length bytes ≤ size)
+    (put : PutsInTree old new root place bytes) where
+  whole_now : WholeTree (tree_memory new root)
+  whole_now n = ap (λ (m : Memory). length (tree_page m n)) put.here ∙ put_whole (tree_memory old root) size place bytes whole inside within n
+
+  pub tree_put : root ≢ 0 → 0 < length bytes → IsFileMemory (tree_memory old root) size → IsFileTree (forest_of new).keys (memory_page new) root size
+  tree_put some any is =
+      memory_to_tree new root size some whole_now (place / 4096) _
+      (ap (λ (m : Memory). at m (place / 4096)) put.here ∙ at-with_at (tree_memory old root) (place / 4096) (Some (record { writable = true; bytes = overwritten (tree_page (tree_memory old root) (place / 4096)) (place % 4096) bytes })))
+      (subst (λ (m : Memory). IsFileMemory m size) (sym put.here) (memory_put (tree_memory old root) size place bytes whole inside within any is))
+
+  pub bytes_put : file_in (tree_memory new root) size ≡ overwritten (file_in (tree_memory old root) size) place bytes
+  bytes_put = ap (λ (m : Memory). file_in m size) put.here ∙ file_put (tree_memory old root) size place bytes whole inside within

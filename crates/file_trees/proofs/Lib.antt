@@ -6,4 +6,6 @@ pub mod Pieces
 pub mod Cuts
 pub mod FileMemory
 pub mod FileTrees
+pub mod Views
 pub mod Rooting
+pub mod SharedFiles

@@ -3,3 +3,4 @@ pub mod Trees
 pub mod Pieces
 pub mod Cuts
 pub mod FileMemory
+pub mod Good

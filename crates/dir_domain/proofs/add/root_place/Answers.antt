@@ -1,8 +1,8 @@
 use Rattle.std.proofs.Common.{ap, sym, subst, ◌∙◌, arith}
 use Rattle.kernel_tables.specs.Kernel.{Kernel, kernel_of}
-use Rattle.kernel_tables.proofs.Sizes.{length-inodes, length-memory_page}
+use Rattle.kernel_tables.proofs.Sizes.{length-inodes}
 use Rattle.file_tables.specs.Rows.{InodesGood}
-use Rattle.dir_domain.proofs.Changing.{all-whole}
+use Rattle.kernel_machine.proofs.OwnerLaws.{store_is_whole}
 use Rattle.dir_domain.proofs.Planting.{place-planted}
 use Rattle.dir_domain.proofs.Stretching.{right-with}
 use Rattle.dir_domain.proofs.add.root_place.Goals as goal
@@ -26,8 +26,7 @@ returns-clause-changed g c =
     place-planted (kernel_of memory) k2 c.args.dir c.args.length c.args.number c.plant-tree.result.0.0 c.args.row c.args.bytes.now c.requires.standing c.requires.row c.requires.none (omega (arith, count))
     c.told-bytes c.requires.number c.plant-tree.ensures.planted c.plant-tree.ensures.good (kernel_of (g.T.Store.memory c.set_inode.new.store)) c.set_inode.ensures.written c.requires.whole
     c.set_inode.ensures.roots c.set_inode.ensures.good
-    (all-whole k2 c.plant-tree.ensures.good
-    (record { whole = λ page which. length-memory_page (g.T.Store.memory c.plant-tree.new.store) page c.plant-tree.ensures.good.sized which (g.met.T.Store.page_length c.plant-tree.new.store) }))
+    (store_is_whole (g.T.Store.memory c.plant-tree.new.store) c.plant-tree.ensures.good (g.met.T.Store.page_length c.plant-tree.new.store))
 
 pub returns-clause-promised : goal.returns-clause-promised
 returns-clause-promised g c =

@@ -2,8 +2,8 @@ use Rattle.std.proofs.Common.{◌≡◌, subst, ◌*◌, ◌/◌, arith}
 use Rattle.forest.specs.Calls.{IsOwn}
 use Rattle.kernel_forest.specs.Trees.{forest_of}
 use Rattle.kernel_tables.specs.Kernel.{kernel_of}
-use Rattle.kernel_tables.proofs.Sizes.{length-memory_page}
-use Rattle.dir_domain.proofs.Changing.{all-whole, place-written}
+use Rattle.kernel_machine.proofs.OwnerLaws.{store_is_whole}
+use Rattle.dir_domain.proofs.Changing.{place-written}
 use Rattle.dir_domain.proofs.write.write_place.Goals as goal
 
 pub put_piece-requires-clause-page_room : goal.put_piece-requires-clause-page_room
@@ -16,5 +16,4 @@ returns-clause-changed g c = λ dir is.
     let new = kernel_of (g.T.Store.memory c.put_piece.new.store) in
     place-written (kernel_of (g.T.Store.memory c.args.store.now)) new dir c.args.number c.args.row.now c.args.bytes.now c.requires.standing is c.requires.tree c.requires.number c.told-bytes
     c.put_piece.ensures.put c.put_piece.ensures.good
-    (all-whole new c.put_piece.ensures.good
-    (record { whole = λ page which. length-memory_page (g.T.Store.memory c.put_piece.new.store) page c.put_piece.ensures.good.sized which (g.met.T.Store.page_length c.put_piece.new.store) }))
+    (store_is_whole (g.T.Store.memory c.put_piece.new.store) c.put_piece.ensures.good (g.met.T.Store.page_length c.put_piece.new.store))

@@ -1,4 +1,4 @@
--- Where a page of a file is no page of its own, fewer pages are taken than are promised.
+-- Where a page of a file or directory is no page of its own, fewer pages are taken than are promised.
 use Rattle.std.proofs.Common.{◌≡◌, ◌≢◌, ℕ, ◌+◌, ◌*◌, ◌/◌, ◌%◌, ◌^◌, ◌<◌, ◌≤◌, Bool, true, false, not, Option, Some, None, [], length, arith, refl, sym, ap, subst, ◌∙◌, ◌||◌, ◌&&◌, ◌==◌, if◌then◌else◌, ⊎_elim}
 use Rattle.std.proofs.Math.Path.{fun_ext}
 use Rattle.std.specs.Prelude.{option_map}

@@ -1,4 +1,4 @@
--- A call on the tree of a file: what of the machine it changes.
+-- A call on the tree of a file or directory: what of the machine it changes.
 use Rattle.std.proofs.Common.{◌≡◌, ◌≢◌, ℕ, ◌-◌, false, nat_lt, true, Some, None, refl, ap, ◌∙◌, arith, ⊎_elim}
 use Rattle.std.proofs.lemmas.Bool.{cases_Bool, ne_eqb}
 use Rattle.kernel_tables.specs.declared.entry.Entry.{Entry}
