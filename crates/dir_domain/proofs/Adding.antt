@@ -1,5 +1,5 @@
 -- A name is added: the tests of the line, the promise, and the places.
-use Rattle.std.proofs.Common.{◌≡◌, ◌≢◌, ℕ, zero, suc, ◌+◌, ◌*◌, ◌/◌, ◌<◌, true, false, Option, Some, None, List, [], ◌∷◌, ◌++◌, length, set, refl, ap, ap₂, sym, subst, ◌∙◌, arith}
+use Rattle.std.proofs.Common.{◌≡◌, ℕ, zero, suc, ◌+◌, ◌*◌, ◌/◌, ◌<◌, true, false, Option, Some, None, List, [], ◌∷◌, ◌++◌, length, set, refl, ap, ap₂, sym, subst, ◌∙◌, arith}
 use Rattle.std.specs.Option.{is_some}
 use Rattle.std.specs.Prelude.{Ok, Err}
 use Rattle.kernel_tables.specs.declared.inode.Inode.{Inode}

@@ -1,5 +1,5 @@
 -- A place of a directory is written: its places have changed, and nothing else that is seen.
-use Rattle.std.proofs.Common.{◌≡◌, ◌≢◌, ℕ, ◌+◌, ◌-◌, ◌*◌, ◌/◌, ◌<◌, ◌≤◌, Some, List, [], length, set, refl, ap, ap₂, sym, subst, ◌∙◌, arith}
+use Rattle.std.proofs.Common.{◌≡◌, ◌≢◌, ℕ, ◌+◌, ◌*◌, ◌/◌, ◌<◌, ◌≤◌, Some, List, length, set, refl, ap, ap₂, sym, subst, ◌∙◌, arith}
 use Rattle.std.specs.Prelude.{option_map, ◌%◌}
 use Rattle.std.proofs.lemmas.List.{length-set}
 use Rattle.kernel_tables.specs.declared.inode.Inode.{Inode}

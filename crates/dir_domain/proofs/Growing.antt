@@ -1,6 +1,6 @@
 -- A directory gets a place more: behind its end all bytes are zero, so the place is a hole.
 use Rattle.std.proofs.Common.{◌≡◌, ℕ, zero, suc, ◌+◌, ◌-◌, ◌*◌, ◌/◌, ◌<◌, ◌≤◌, Option, None, List, [], ◌∷◌, ◌++◌, length, get_or, set, replicate, refl, ap, ap₂, sym, ◌∙◌, arith, add-one}
-use Rattle.std.specs.Prelude.{◌%◌, ◌==◌, ◌&&◌}
+use Rattle.std.specs.Prelude.{◌%◌}
 use Rattle.std.proofs.lemmas.List.{same_lists, length-replicate, get_or-replicate, set-append_right}
 use Rattle.kn_base.specs.Memory.{zero_page}
 use Rattle.kn_base.specs.Rows.{part_at}

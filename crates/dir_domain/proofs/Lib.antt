@@ -10,4 +10,5 @@ pub mod Stretching
 pub mod Planting
 pub mod FirstHoles
 pub mod Adding
+pub mod Keeping
 pub mod AddsNames

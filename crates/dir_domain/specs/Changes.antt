@@ -1,13 +1,10 @@
 -- The places of a directory change.
-use Rattle.std.specs.Prelude.{◌≡◌, ◌≢◌, ◌<◌, ◌≤◌, ◌+◌, ◌-◌, ◌*◌, ◌/◌, ◌⊎◌, ◌++◌, ◌∷◌, [], ℕ, List, Option, Some, None, is_some, length, Result, Ok, Err}
+use Rattle.std.specs.Prelude.{◌≡◌, ◌<◌, ◌≤◌, ◌+◌, ◌-◌, ◌*◌, ◌/◌, ◌⊎◌, ◌++◌, ◌∷◌, [], ℕ, List, Option, Some, None, is_some, length, Result, Ok, Err}
 use Rattle.kernel_tables.specs.declared.inode.Inode.{Inode}
 use Rattle.kernel_tables.specs.Kernel.{Kernel}
 use Rattle.kn_base.specs.declared.key.Key.TheVariants.{Null}
 use Rattle.space_bank.specs.Bank.{BankGood}
-use Rattle.forest.specs.Calls.{IsOwn}
 use Rattle.forest.specs.Objects.{OfFile}
-use Rattle.forest.specs.Walks.{Mapping}
-use Rattle.kernel_forest.specs.Trees.{forest_of}
 use Rattle.unix_model.specs.declared.calls.Errno.{Errno}
 use Rattle.unix_model.specs.declared.calls.Errno.TheVariants.{Eexist, Enoent, Enospc}
 use Rattle.unix_model.specs.Files.{Entry, with_places, with_entry, with_name, inode_named, is_full, places_of}
@@ -39,12 +36,6 @@ pub record ChangesPlaces (old new : Kernel) (dir : ℕ) (places : List (Option E
   pub machine : ChangesMemory (with_tree (machine_of old) dir row root (place_bytes * length places)) (machine_of new) root
   pub view : view (machine_of new) ≡ with_files (view (machine_of old)) (with_places (files_in (machine_of old)) dir places)
   pub standing : Standing new
-
--- Nodes for a way to a page of a directory are free, and a page is where a page of the directory's length isn't its own.
-pub record HasRoom (kernel : Kernel) (dir : ℕ) : Type 0 where
-  pub nodes : kernel.machine.nodes_taken + 28 ≤ kernel.nodes
-  pub pages : (row : Inode) (page : ℕ) → at (inodes_of kernel) dir ≡ Some row → page < pages_of row.length
-      → (row.root ≢ 0 → (found : Mapping) → IsOwn (forest_of kernel) row.root page found → ⊥) → kernel.machine.pages_taken < kernel.size
 
 -- the inode of a name, or that there is no such name
 abbrev pub name_told : List (Option Entry) → List ℕ → Result ℕ Errno

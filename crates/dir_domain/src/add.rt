@@ -9,13 +9,11 @@ ghost use Rattle.forest.specs.Walks.{Mapping};
 ghost use Rattle.kernel_forest.specs.Trees.{forest_of};
 ghost use Rattle.unix_model.specs.Files.{is_directory};
 ghost use Rattle.unix_model.specs.Limits.{place_bytes};
-ghost use Rattle.unix_model.specs.Room.{promised};
 ghost use Rattle.unix_model.specs.Rules.{IsName, is_named_kind};
 ghost use Rattle.kernel_machine.specs.Contents.{place_in};
-ghost use Rattle.kernel_machine.specs.Machine.{machine_of};
 ghost use Rattle.kernel_machine.specs.Standing.{Standing};
-ghost use Rattle.kernel_machine.specs.View.{view};
-ghost use Rattle.dir_domain.specs.Changes.{AddsName, Appends, ChangesPlaces, HasRoom, Plants, more_pages, places_for};
+ghost use Rattle.file_trees.specs.Good.{FilesGood};
+ghost use Rattle.dir_domain.specs.Changes.{AddsName, Appends, ChangesPlaces, Plants, more_pages, places_for};
 ghost use Rattle.dir_domain.specs.Rows.{IsDirectoryRow, inode_seen};
 
 use super::place::entry_bytes;
@@ -156,10 +154,8 @@ fn promise_place<T: Store>(store: &mut T, length: u32) -> bool
 // Puts an entry in a new place at the end of a directory. ENOSPC comes exactly where it has 1,024 places, or where the new place
 // needs a page that can't be promised, and then nothing has changed.
 fn append<T: Store>(store: &mut T, dir: u32, row: Inode, bytes: &[u8; 32]) -> Result<(), Errno>
-    requires standing { Standing (kernel_of (T.memory store.old)) }
+    requires good { FilesGood (kernel_of (T.memory store.old)) }
     requires row { IsDirectoryRow (kernel_of (T.memory store.old)) dir row }
-    requires room { HasRoom (kernel_of (T.memory store.old)) dir }
-    requires taken { (kernel_of (T.memory store.old)).machine.pages_taken ≤ (kernel_of (T.memory store.old)).machine.promised }
     ensures appended { Appends (kernel_of (T.memory store.old)) (kernel_of (T.memory store.new)) dir row (place_in bytes.now) result }
     ensures most { (kernel_of (T.memory store.new)).machine.nodes_taken ≤ (kernel_of (T.memory store.old)).machine.nodes_taken + 13 }
     ensures keeps { T.keeps store.old store.new }
@@ -179,15 +175,12 @@ fn append<T: Store>(store: &mut T, dir: u32, row: Inode, bytes: &[u8; 32]) -> Re
 /// needs one. EEXIST comes where the name is there, and then ENOSPC where all 1,024 places are used, or where no page is left to
 /// promise; nothing has changed then. How many entries name the inode is for the caller to count.
 pub fn add_name<T: Store>(store: &mut T, dir: u32, name: &[u8], inode: u32) -> Result<(), Errno>
-    requires standing { Standing (kernel_of (T.memory store.old)) }
+    requires good { FilesGood (kernel_of (T.memory store.old)) }
     requires directory { is_directory (inode_seen (kernel_of (T.memory store.old)) dir) ≡ true }
     requires name { IsName name.now }
     requires inode { is_named_kind (inode_seen (kernel_of (T.memory store.old)) inode) ≡ true }
-    requires room { HasRoom (kernel_of (T.memory store.old)) dir }
-    requires taken { (kernel_of (T.memory store.old)).machine.pages_taken ≤ (kernel_of (T.memory store.old)).machine.promised }
-    requires promises { (kernel_of (T.memory store.old)).machine.promised ≡ promised (view (machine_of (kernel_of (T.memory store.old)))) }
     ensures added { AddsName (kernel_of (T.memory store.old)) (kernel_of (T.memory store.new)) dir name.now inode result }
-    ensures promises { (kernel_of (T.memory store.new)).machine.promised ≡ promised (view (machine_of (kernel_of (T.memory store.new)))) }
+    ensures good { FilesGood (kernel_of (T.memory store.new)) }
     ensures most { (kernel_of (T.memory store.new)).machine.nodes_taken ≤ (kernel_of (T.memory store.old)).machine.nodes_taken + 13 }
     ensures keeps { T.keeps store.old store.new }
 {

@@ -6,8 +6,8 @@ ghost use Rattle.kernel_tables.specs.Kernel.{Kernel, kernel_of};
 ghost use Rattle.unix_model.specs.Files.{is_directory, with_place};
 ghost use Rattle.unix_model.specs.Rules.{IsName};
 ghost use Rattle.kernel_machine.specs.Contents.{place_in};
-ghost use Rattle.kernel_machine.specs.Standing.{Standing};
-ghost use Rattle.dir_domain.specs.Changes.{ChangesPlaces, HasRoom, name_told, entry_of};
+ghost use Rattle.file_trees.specs.Good.{FilesGood};
+ghost use Rattle.dir_domain.specs.Changes.{ChangesPlaces, name_told, entry_of};
 ghost use Rattle.dir_domain.specs.Rows.{inode_seen, places_seen};
 
 use super::place::entry_bytes;
@@ -24,13 +24,13 @@ fn change_place<T: Store>(
     name: &[u8],
     bytes: &[u8; 32],
 ) -> Result<u32, Errno>
-    requires standing { Standing (kernel_of (T.memory store.old)) }
+    requires good { FilesGood (kernel_of (T.memory store.old)) }
     requires directory { is_directory (inode_seen (kernel_of (T.memory store.old)) dir) ≡ true }
-    requires room { HasRoom (kernel_of (T.memory store.old)) dir }
     ensures told { result ≡ name_told (places_seen (kernel_of (T.memory store.old)) dir) name.now }
     ensures changed { let old = kernel_of (T.memory store.old) in IfOk result (λ was. ChangesPlaces old (kernel_of (T.memory store.new)) dir (with_place (places_seen old dir) name.now (place_in bytes.now))) }
     ensures refused { OnErr result (kernel_of (T.memory store.new) ≡ kernel_of (T.memory store.old)) }
     ensures promised { (kernel_of (T.memory store.new)).machine.promised ≡ (kernel_of (T.memory store.old)).machine.promised }
+    ensures good { FilesGood (kernel_of (T.memory store.new)) }
     ensures most { (kernel_of (T.memory store.new)).machine.nodes_taken ≤ (kernel_of (T.memory store.old)).machine.nodes_taken + 12 }
     ensures keeps { T.keeps store.old store.new }
 {
@@ -47,13 +47,13 @@ fn change_place<T: Store>(
 /// Takes a name away from a directory: its place is a hole then, all its bytes zero. Answers the inode that had the name. ENOENT
 /// comes exactly where no place has it, and then nothing has changed.
 pub fn remove_name<T: Store>(store: &mut T, dir: u32, name: &[u8]) -> Result<u32, Errno>
-    requires standing { Standing (kernel_of (T.memory store.old)) }
+    requires good { FilesGood (kernel_of (T.memory store.old)) }
     requires directory { is_directory (inode_seen (kernel_of (T.memory store.old)) dir) ≡ true }
-    requires room { HasRoom (kernel_of (T.memory store.old)) dir }
     ensures told { result ≡ name_told (places_seen (kernel_of (T.memory store.old)) dir) name.now }
     ensures changed { let old = kernel_of (T.memory store.old) in IfOk result (λ inode. ChangesPlaces old (kernel_of (T.memory store.new)) dir (with_place (places_seen old dir) name.now None)) }
     ensures refused { OnErr result (kernel_of (T.memory store.new) ≡ kernel_of (T.memory store.old)) }
     ensures promised { (kernel_of (T.memory store.new)).machine.promised ≡ (kernel_of (T.memory store.old)).machine.promised }
+    ensures good { FilesGood (kernel_of (T.memory store.new)) }
     ensures most { (kernel_of (T.memory store.new)).machine.nodes_taken ≤ (kernel_of (T.memory store.old)).machine.nodes_taken + 12 }
     ensures keeps { T.keeps store.old store.new }
 {
@@ -68,14 +68,14 @@ pub fn replace_name<T: Store>(
     name: &[u8],
     inode: u32,
 ) -> Result<u32, Errno>
-    requires standing { Standing (kernel_of (T.memory store.old)) }
+    requires good { FilesGood (kernel_of (T.memory store.old)) }
     requires directory { is_directory (inode_seen (kernel_of (T.memory store.old)) dir) ≡ true }
     requires name { IsName name.now }
-    requires room { HasRoom (kernel_of (T.memory store.old)) dir }
     ensures told { result ≡ name_told (places_seen (kernel_of (T.memory store.old)) dir) name.now }
     ensures changed { let old = kernel_of (T.memory store.old) in IfOk result (λ was. ChangesPlaces old (kernel_of (T.memory store.new)) dir (with_place (places_seen old dir) name.now (Some (entry_of name.now inode)))) }
     ensures refused { OnErr result (kernel_of (T.memory store.new) ≡ kernel_of (T.memory store.old)) }
     ensures promised { (kernel_of (T.memory store.new)).machine.promised ≡ (kernel_of (T.memory store.old)).machine.promised }
+    ensures good { FilesGood (kernel_of (T.memory store.new)) }
     ensures most { (kernel_of (T.memory store.new)).machine.nodes_taken ≤ (kernel_of (T.memory store.old)).machine.nodes_taken + 12 }
     ensures keeps { T.keeps store.old store.new }
 {

@@ -1,14 +1,13 @@
 -- The first piece of a file that has no tree: a tree is added, the piece is put, and the row gets its root.
-use Rattle.std.proofs.Common.{◌≡◌, ◌≢◌, ℕ, zero, suc, ◌+◌, ◌/◌, ◌%◌, ◌<◌, ◌≤◌, Option, Some, None, List, [], length, refl, ap, sym, subst, ◌∙◌, arith}
+use Rattle.std.proofs.Common.{◌≡◌, ◌≢◌, ℕ, zero, suc, ◌+◌, ◌%◌, ◌<◌, ◌≤◌, Option, Some, None, List, [], length, refl, ap, sym, subst, ◌∙◌, arith}
 use Rattle.kn_base.specs.declared.key.Key.TheVariants.{Null}
 use Rattle.kn_base.specs.Rows.{overwritten}
 use Rattle.kn_base.proofs.RowLaws.{length-overwritten}
 use Rattle.kernel_tables.specs.declared.inode.Inode.{Inode}
-use Rattle.kernel_tables.specs.declared.inode.InodeKind.TheVariants as kind
 use Rattle.kernel_tables.specs.declared.row.Row.{Row}
 use Rattle.kernel_tables.specs.declared.row.Row.TheVariants.{Used}
 use Rattle.kernel_tables.specs.Kernel.{Kernel, memory_page, inode_at}
-use Rattle.kernel_tables.specs.Rows.{of_domain, is_fixed, KeepsRows}
+use Rattle.kernel_tables.specs.Rows.{KeepsRows}
 use Rattle.space_bank.specs.Bank.{BankGood}
 use Rattle.file_tables.specs.Roots.{ExchangesRoots, named_by}
 use Rattle.forest.specs.Calls.{AddsSpace}
@@ -17,7 +16,6 @@ use Rattle.forest.specs.Forest.{IsSpace}
 use Rattle.forest.specs.Objects.{OfFile}
 use Rattle.forest.specs.Walks.{Mapping, map_of}
 use Rattle.kernel_forest.proofs.GivingNodes.{unreleased}
-use Rattle.kernel_forest.proofs.RowLaws.{domains_apart, fixed_apart}
 use Rattle.kernel_forest.specs.Apart.{KeepsApart}
 use Rattle.kernel_forest.specs.Releases.{KeepsUnreleased}
 use Rattle.kernel_forest.specs.Trees.{forest_of}
@@ -29,7 +27,6 @@ use Rattle.unix_model.specs.Room.{promised}
 use Rattle.unix_model.specs.State.{Unix, with_files}
 use Rattle.unix_model.specs.Tables.{at, with_at, nothing}
 use Rattle.user_copy.specs.SpaceMemory.{memory_by}
-use Rattle.domain.specs.Domains.{domain_at, roots_by}
 use Rattle.kernel_machine.specs.Contents.{file_in, mapped_bytes}
 use Rattle.kernel_machine.specs.Held.{AllWhole}
 use Rattle.kernel_machine.specs.Loose.{Tree, StandingBut}
@@ -50,12 +47,12 @@ use Rattle.file_trees.proofs.Pages.{tree_is_space, zero_long}
 use Rattle.file_trees.proofs.Pieces.{space_some}
 use Rattle.file_trees.proofs.Rooting.{root_stands, root_seen}
 use Rattle.file_trees.proofs.Views.{state-now}
-use Rattle.file_domain.specs.Effects.{with_file, PutsAt}
+use Rattle.file_domain.specs.Effects.{ChangesFile, with_file, PutsAt}
 use Rattle.file_trees.specs.Good.{FilesGood}
 use Rattle.file_domain.specs.Good.{IsFileAt}
-use Rattle.file_domain.proofs.Keeping.{accounted_still, same_promise}
+use Rattle.file_domain.proofs.Keeping.{accounted_file, same_promise}
 use Rattle.file_domain.proofs.Puts.{has-tree}
-use Rattle.file_domain.proofs.Rows.{with_row, row_there, row_all, seen_row}
+use Rattle.file_domain.proofs.Rows.{with_row, row_there, seen_row}
 use Rattle.file_domain.proofs.Seen.{seen_file}
 
 -- no tree has no pages
@@ -176,18 +173,21 @@ module _ (k0 k1 : Kernel) (number root : ℕ) (inode : Inode) (good : FilesGood 
     there3 : IsFileAt k3 number row
     there3 = row_there k2 number inode row all2 below file2 file.kind
 
+    changes3 : ChangesFile k0 k3 number inode row
+    changes3 = record { row = refl; there = there3.there; state = state_now }
+
     pub puts_first : ExchangesRoots k2 k3 number (Used row) → InodesGood k3.inodes → PutsAt k0 k3 number place bytes
     puts_first exchanges rows = record {
       inode = inode;
       was = file;
       now = row;
-      changes = record { row = refl; there = there3.there; state = state_now };
+      changes = changes3;
       length_same = refl;
       seen = file_seen;
       promised_same = ap (λ (k : Kernel). k.machine.promised) rest02;
       good = record {
         standing = standing3 exchanges rows;
-        accounted = accounted_still k0 k3 (ap roots_by (rows02 is_fixed fixed_apart)) (ap domain_at (rows02 of_domain domains_apart)) (row_all k2 number inode row all2 below file2 file.kind) (standing3 exchanges rows) good.accounted;
+        accounted = accounted_file k0 k3 number inode row below changes3 (standing3 exchanges rows) good.accounted;
         promises = ap (λ (k : Kernel). k.machine.promised) rest02 ∙ good.promises ∙ sym (ap promised file_seen ∙ promises_now);
       };
       file = there3;

@@ -26,11 +26,11 @@ use Rattle.file_trees.specs.Trees.{tree_memory}
 use Rattle.file_trees.proofs.Contents.{WholeTree}
 use Rattle.file_trees.proofs.FileMemory.{file_grown}
 use Rattle.file_trees.proofs.FileTrees.{memory_of_root, tree_grown}
-use Rattle.file_domain.specs.Effects.{with_file, Resizes, NoRoom}
+use Rattle.file_domain.specs.Effects.{ChangesFile, with_file, Resizes, NoRoom}
 use Rattle.file_trees.specs.Good.{FilesGood}
 use Rattle.file_domain.specs.Good.{IsFileAt}
-use Rattle.file_domain.proofs.Keeping.{accounted_still, promised_file}
-use Rattle.file_domain.proofs.Rows.{promising, with_row, promise_unseen, promise_stands, row_there, row_all, row_seen, row_stands}
+use Rattle.file_domain.proofs.Keeping.{accounted_file, promised_file}
+use Rattle.file_domain.proofs.Rows.{promising, with_row, promise_unseen, promise_stands, row_there, row_seen, row_stands}
 use Rattle.file_domain.proofs.Seen.{seen_file, file_root}
 
 -- promised pages are no part of a tree
@@ -128,17 +128,20 @@ module _ (k0 : Kernel) (number size more : ℕ) (inode : Inode) (good : FilesGoo
   unfolding machine_of inodes_of descriptions_of
   state_now = inode_written k1 k2 number (Used row) (omega arith) refl
 
+  changes_now : ChangesFile k0 k2 number inode row
+  changes_now = record { row = refl; there = (row_there k1 number inode row all below file1 file.kind).there; state = state_now }
+
   grows_to : BankGood k1 → ExchangesRoots k1 k2 number (Used row) → InodesGood k2.inodes → k0.machine.promised + more ≤ k0.size → Resizes k0 k2 number inode row
   grows_to bank exchanges inodes fits =
       let standing1 = promise_stands k0 (k0.machine.promised + more) bank good.standing in
       let standing2 = row_stands k1 number inode row all below file1 file.kind refl exchanges inodes root1 standing1 in
       record {
-        changes = record { row = refl; there = (row_there k1 number inode row all below file1 file.kind).there; state = state_now };
+        changes = changes_now;
         seen = seen;
         room = ap has_room seen ∙ has fits;
         good = record {
           standing = standing2;
-          accounted = accounted_still k0 k2 refl refl (row_all k1 number inode row all below file1 file.kind) standing2 good.accounted;
+          accounted = accounted_file k0 k2 number inode row below changes_now standing2 good.accounted;
           promises = sym (ap promised seen ∙ promised_now);
         };
         file = row_there k1 number inode row all below file1 file.kind;

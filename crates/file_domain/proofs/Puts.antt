@@ -1,5 +1,5 @@
 -- A piece is put into a file whose tree is there.
-use Rattle.std.proofs.Common.{◌≡◌, ◌≢◌, ℕ, ◌+◌, ◌/◌, ◌%◌, ◌<◌, ◌≤◌, Some, List, length, refl, ap, sym, ◌∙◌, arith}
+use Rattle.std.proofs.Common.{◌≡◌, ◌≢◌, ℕ, ◌+◌, ◌%◌, ◌<◌, ◌≤◌, Some, List, length, refl, ap, sym, ◌∙◌, arith}
 use Rattle.kn_base.specs.Rows.{overwritten}
 use Rattle.kernel_tables.specs.declared.inode.Inode.{Inode}
 use Rattle.kernel_tables.specs.declared.inode.InodeKind.{InodeKind}
@@ -11,20 +11,16 @@ use Rattle.forest.specs.Calls.{IsOwn}
 use Rattle.forest.specs.Walks.{Mapping}
 use Rattle.kn_base.proofs.RowLaws.{length-overwritten}
 use Rattle.kernel_forest.specs.Trees.{forest_of}
-use Rattle.kernel_tables.specs.Rows.{of_domain, is_fixed}
-use Rattle.kernel_forest.proofs.RowLaws.{domains_apart, fixed_apart}
 use Rattle.unix_model.specs.Room.{promised}
 use Rattle.unix_model.specs.State.{Unix, with_files}
 use Rattle.unix_model.specs.Files.{File, with_inode}
 use Rattle.unix_model.specs.Numbers.{pages_of}
 use Rattle.unix_model.specs.Tables.{with_at}
 use Rattle.unix_model.proofs.TableLaws.{with_at-same}
-use Rattle.domain.specs.Domains.{domain_at, roots_by}
 use Rattle.kernel_machine.specs.Held.{AllWhole}
 use Rattle.kernel_machine.specs.Machine.{KernelMachine, machine_of, inodes_of}
 use Rattle.kernel_machine.specs.Standing.{Standing}
 use Rattle.kernel_machine.specs.Trees.{HasTree, IsFileTree}
-use Rattle.kernel_machine.proofs.NodeBounds.{nodes_accounted}
 use Rattle.kernel_machine.proofs.PagesHeld.{file-long}
 use Rattle.kernel_machine.specs.View.{view, inodes_in, descriptions_in, files_in, stored, inode_in}
 use Rattle.kernel_machine.proofs.MemoryLaws.{tree_changed}
@@ -34,14 +30,14 @@ use Rattle.file_trees.specs.Pieces.{PutsInTree, MayBeWritten}
 use Rattle.file_trees.specs.Trees.{tree_memory}
 use Rattle.file_trees.proofs.Contents.{WholeTree}
 use Rattle.file_trees.proofs.FileTrees.{bytes_put, tree_put}
-use Rattle.file_domain.specs.Effects.{with_file, PutsAt}
+use Rattle.file_domain.specs.Effects.{ChangesFile, with_file, PutsAt}
 use Rattle.file_trees.specs.Good.{FilesGood}
 use Rattle.file_domain.specs.Good.{IsFileAt}
 use Rattle.file_domain.proofs.Growth.{memory_of_file}
-use Rattle.file_domain.proofs.Keeping.{accounted_still, promised_file}
+use Rattle.file_domain.proofs.Keeping.{accounted_file, promised_file}
 use Rattle.file_domain.proofs.Rows.{seen_row}
 use Rattle.file_domain.proofs.Seen.{there_file, file_root, seen_file}
-use Rattle.file_trees.proofs.SharedFiles.{file_page_left}
+use Rattle.file_trees.proofs.Accounting.{tree_page_left}
 use Rattle.file_trees.proofs.Views.{changes_memory, state-now}
 
 pub has-tree : (k : InodeKind) → k ≡ kind.File → HasTree k
@@ -50,7 +46,7 @@ has-tree kind.Dir e = tt
 has-tree kind.Pipe e = cc
 has-tree kind.Console e = cc
 
-module _ (k0 k1 : Kernel) (number place : ℕ) (bytes : List ℕ) (inode : Inode) (good : FilesGood k0) (below : number < 1024) (file : IsFileAt k0 number inode) (whole : WholeTree (tree_memory k0 inode.root)) (all : length k0.inodes ≡ 1024)
+module _ (k0 k1 : Kernel) (number place : ℕ) (bytes : List ℕ) (inode : Inode) (good : FilesGood k0) (below : number < 1024) (file : IsFileAt k0 number inode) (whole : WholeTree (tree_memory k0 inode.root))
     (some : inode.root ≢ 0) (any : 0 < length bytes) (inside : place % 4096 + length bytes ≤ 4096) (within : place + length bytes ≤ inode.length)
     (put : PutsInTree k0 k1 inode.root place bytes) (bank : BankGood k1) (pages : AllWhole k1.bank) where
   inodes_same : k1.inodes ≡ k0.inodes
@@ -111,40 +107,30 @@ module _ (k0 k1 : Kernel) (number place : ℕ) (bytes : List ℕ) (inode : Inode
       ∙ ap (λ table. let m : KernelMachine = record (machine_of k0) { forest = (machine_of k1).forest; page_bytes = (machine_of k1).page_bytes; page_owner = (machine_of k1).page_owner; inodes = table; words = record (machine_of k1).words { size = k0.machine.size; quantum = k0.machine.quantum; position = k0.machine.position; next_pid = k0.machine.next_pid } } in m)
       (sym (with_at-same (inodes_of k0) number (Some inode) (there_file k0 number inode file)))
 
+  changes_now : ChangesFile k0 k1 number inode inode
+  changes_now = record { row = refl; there = file_now.there; state = state_now }
+
   pub puts_at : PutsAt k0 k1 number place bytes
   puts_at = record {
     inode = inode;
     was = file;
     now = inode;
-    changes = record { row = refl; there = file_now.there; state = state_now };
+    changes = changes_now;
     length_same = refl;
     seen = seen_now;
     promised_same = ap (λ (k : Kernel). k.machine.promised) put.leaves.rest;
     good = record {
       standing = standing_now;
-      accounted = accounted_still k0 k1 (ap roots_by (put.leaves.rows_now is_fixed fixed_apart)) (ap domain_at (put.leaves.rows_now of_domain domains_apart)) (ap length inodes_same ∙ all) standing_now good.accounted;
+      accounted = accounted_file k0 k1 number inode inode below changes_now standing_now good.accounted;
       promises = ap (λ (k : Kernel). k.machine.promised) put.leaves.rest ∙ good.promises ∙ sym (ap promised seen_now ∙ promises_now);
     };
     file = file_now;
   }
 
 -- what a piece of a file needs is there
-pub nodes_left : (kernel : Kernel) → FilesGood kernel → kernel.machine.nodes_taken + 80 ≤ kernel.nodes
-nodes_left kernel good =
-    let few = nodes_accounted kernel good.accounted in
-    let promises = good.promises in
-    let most = good.standing.bank.words.promises in
-    let all = good.standing.bank.sized.all_nodes in
-    omega arith
-
 pub page_left : (kernel : Kernel) (number page : ℕ) (inode : Inode) → FilesGood kernel → IsFileAt kernel number inode → page < pages_of inode.length
     → ((found : Mapping) → inode.root ≢ 0 → IsOwn (forest_of kernel) inode.root page found → ⊥) → kernel.machine.pages_taken < kernel.size
-page_left kernel number page inode good file below shared =
-    let less = file_page_left kernel number inode page good.accounted (there_file kernel number inode file) (has-tree inode.kind file.kind) below
-    (λ some. let root = file_root kernel number inode good.standing file some in (root.0, root.1)) shared in
-    let promises = good.promises in
-    let most = good.standing.bank.words.promises in
-    omega arith
+page_left kernel number page inode good file = tree_page_left kernel number page inode good (there_file kernel number inode file) (has-tree inode.kind file.kind)
 
 pub may_write : (kernel : Kernel) (number : ℕ) (inode : Inode) → FilesGood kernel → IsFileAt kernel number inode → inode.root ≢ 0 → MayBeWritten kernel inode.root
 may_write kernel number inode good file some = (file_root kernel number inode good.standing file some).2.writable

@@ -9,3 +9,4 @@ pub mod FileTrees
 pub mod Views
 pub mod Rooting
 pub mod SharedFiles
+pub mod Accounting

@@ -7,9 +7,11 @@ use Rattle.forest.specs.Walks.{Mapping}
 use Rattle.kernel_forest.specs.Trees.{forest_of}
 use Rattle.kernel_machine.specs.Contents.{place_in}
 use Rattle.kernel_machine.proofs.StandingLaws.{standing_with_words}
+use Rattle.file_trees.proofs.Accounting.{nodes_left, taken_promised}
 use Rattle.dir_domain.specs.Changes.{ChangesPlaces, more_pages, places_for}
 use Rattle.dir_domain.specs.Rows.{IsDirectoryRow}
 use Rattle.dir_domain.proofs.Adding.{row-with-words, before-words, place-appended}
+use Rattle.dir_domain.proofs.Keeping.{dir_page_left}
 use Rattle.dir_domain.proofs.add.append.Goals as goal
 
 pub put_place-requires : goal.put_place-requires
@@ -25,20 +27,20 @@ put_place-requires g c =
     let whole = c.requires.row.whole in
     let short = c.if-row-eq32768.false in
     record {
-      standing = standing_with_words old mid old.machine.next_pid old.machine.position n e c.promise_place.ensures.good c.requires.standing;
+      standing = standing_with_words old mid old.machine.next_pid old.machine.position n e c.promise_place.ensures.good c.requires.good.standing;
       row = subst (λ (k : Kernel). IsDirectoryRow k c.args.dir row) (sym e) (row-with-words old n c.args.dir row c.requires.row);
       order = omega arith;
       few = omega arith;
       whole = omega arith;
       number = omega arith;
-      nodes = let some = c.requires.room.nodes in let a = ap (λ (k : Kernel). k.machine.nodes_taken) e in let b = ap (λ (k : Kernel). k.nodes) e in omega arith;
+      nodes = let some = nodes_left old c.requires.good in let a = ap (λ (k : Kernel). k.machine.nodes_taken) e in let b = ap (λ (k : Kernel). k.nodes) e in omega arith;
       pages = subst (λ (k : Kernel). (row.root ≢ 0 → (found : Mapping) → IsOwn (forest_of k) row.root (row.length / 32 / 128) found → ⊥) → k.machine.pages_taken < k.size) (sym e)
           (λ own. ⊎_elim
           (λ (t : row.length % 4096 ≡ 0).
           let more : more_pages row.length ≡ 1 = omega arith in
-          let taken = c.requires.taken in
+          let taken = taken_promised old c.requires.good in
           omega arith)
-          (λ (d : row.length % 4096 ≢ 0). c.requires.room.pages row (row.length / 32 / 128) c.requires.row.there (omega arith) own)
+          (λ (d : row.length % 4096 ≢ 0). dir_page_left old c.args.dir (row.length / 32 / 128) row c.requires.good c.requires.row (omega arith) own)
           (cases_eq (row.length % 4096) 0));
     }
 
@@ -57,5 +59,5 @@ returns-then-promise_place-clause-appended g c =
       omega arith,
       granted.0,
       c.put_place.ensures.promised ∙ ap (λ (k : Kernel). k.machine.promised) e,
-      subst (ChangesPlaces old last c.args.dir) (place-appended old n c.args.dir row place c.requires.standing c.requires.row) (before-words old n last c.args.dir _ changed),
+      subst (ChangesPlaces old last c.args.dir) (place-appended old n c.args.dir row place c.requires.good.standing c.requires.row) (before-words old n last c.args.dir _ changed),
     )

@@ -1,10 +1,13 @@
 use Rattle.std.proofs.Common.{◌/◌, arith, refl, ap, sym, subst, ◌∙◌}
+use Rattle.std.proofs.lemmas.List.{length-set}
 use Rattle.kernel_tables.specs.Kernel.{kernel_of}
 use Rattle.unix_model.specs.Files.{inode_named}
 use Rattle.kernel_machine.specs.Contents.{place_in}
 use Rattle.dir_domain.specs.Changes.{ChangesPlaces}
 use Rattle.dir_domain.specs.Rows.{bytes_stored, places_seen}
+use Rattle.file_trees.proofs.Accounting.{nodes_left}
 use Rattle.dir_domain.proofs.FoundPlaces.{first-named}
+use Rattle.dir_domain.proofs.Keeping.{dir_page_left, good-same}
 use Rattle.dir_domain.proofs.Names.{named-tree, place-changed, found-told, none-told}
 use Rattle.dir_domain.proofs.Seen.{places-are}
 use Rattle.dir_domain.proofs.rename.change_place.Goals as goal
@@ -15,12 +18,12 @@ write_place-requires g c =
     let row = c.directory_row-row.result in
     let first = first-named (bytes_stored old row) c.args.name.now _ c.in-Some.named.number c.in-Some.ensures.number in
     record {
-      standing = c.requires.standing;
+      standing = c.requires.good.standing;
       row = (c.args.dir, c.directory_row-row.ensures);
-      tree = named-tree old c.args.dir c.in-Some.named.number row c.args.name.now c.requires.standing c.directory_row-row.ensures first.inside first.named;
+      tree = named-tree old c.args.dir c.in-Some.named.number row c.args.name.now c.requires.good.standing c.directory_row-row.ensures first.inside first.named;
       number = first.inside;
-      nodes = c.requires.room.nodes;
-      pages = λ own. c.requires.room.pages row (c.in-Some.named.number / 128) c.directory_row-row.ensures.there (let below = first.inside in omega arith) (λ real. own);
+      nodes = let left = nodes_left old c.requires.good in omega arith;
+      pages = λ own. dir_page_left old c.args.dir (c.in-Some.named.number / 128) row c.requires.good c.directory_row-row.ensures (let below = first.inside in omega arith) (λ real. own);
     }
 
 pub returns-in-Some-clause-told : goal.returns-in-Some-clause-told
@@ -42,3 +45,11 @@ returns-in-None-clause-told g c =
     let old = kernel_of (g.T.Store.memory c.args.store.now) in
     none-told (places_seen old c.args.dir) c.args.name.now
     (c.in-None.ensures.inode ∙ ap (λ places. inode_named places c.args.name.now) (sym (places-are old c.args.dir c.directory_row-row.result c.directory_row-row.ensures)))
+
+pub returns-in-Some-clause-good : goal.returns-in-Some-clause-good
+returns-in-Some-clause-good g c =
+    let old = kernel_of (g.T.Store.memory c.args.store.now) in
+    let new = kernel_of (g.T.Store.memory c.write_place.new.store) in
+    let is = c.directory_row-row.ensures in
+    good-same old new c.args.dir _ c.requires.good is.below (c.write_place.ensures.changed c.args.dir is) c.requires.directory
+    (length-set (places_seen old c.args.dir) c.in-Some.named.number (place_in c.args.bytes.now)) c.write_place.ensures.promised

@@ -3,7 +3,8 @@ use Rattle.kernel_tables.specs.Kernel.{Kernel, kernel_of}
 use Rattle.kernel_tables.proofs.Sizes.{length-inodes}
 use Rattle.kernel_machine.proofs.OwnerLaws.{store_is_whole}
 use Rattle.file_domain.proofs.First.{is1, puts_first_by}
-use Rattle.file_domain.proofs.Puts.{nodes_left, page_left}
+use Rattle.file_trees.proofs.Accounting.{nodes_left}
+use Rattle.file_domain.proofs.Puts.{page_left}
 use Rattle.file_domain.proofs.Seen.{file_row, rooted_row}
 use Rattle.file_domain.proofs.writing.put_first.Goals as goal
 

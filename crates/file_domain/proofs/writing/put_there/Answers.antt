@@ -1,9 +1,10 @@
 use Rattle.std.proofs.Common.{◌/◌, arith}
 use Rattle.kernel_tables.specs.Kernel.{kernel_of}
-use Rattle.kernel_tables.proofs.Sizes.{length-memory_page, length-inodes}
+use Rattle.kernel_tables.proofs.Sizes.{length-memory_page}
 use Rattle.kernel_machine.proofs.OwnerLaws.{store_is_whole}
 use Rattle.file_trees.proofs.Pages.{tree_whole}
-use Rattle.file_domain.proofs.Puts.{nodes_left, page_left, may_write, puts_at}
+use Rattle.file_trees.proofs.Accounting.{nodes_left}
+use Rattle.file_domain.proofs.Puts.{page_left, may_write, puts_at}
 use Rattle.file_domain.proofs.Seen.{file_tree, file_row}
 use Rattle.file_domain.proofs.writing.put_there.Goals as goal
 
@@ -45,5 +46,5 @@ returns-clause-put g c =
     let whole = tree_whole old c.args.inode.root standing.bank standing.trees.held.sound (file_tree old c.args.file c.args.inode standing c.requires.file)
     (record { whole = λ page which. length-memory_page (g.T.Store.memory c.args.store.now) page standing.bank.sized which (g.met.T.Store.page_length c.args.store.now) }) in
     puts_at old (kernel_of (g.T.Store.memory c.put_piece.new.store)) c.args.file c.args.at c.args.from.now c.args.inode c.requires.good c.requires.number c.requires.file whole
-    (length-inodes (g.T.Store.memory c.args.store.now) standing.bank.sized) c.requires.root c.requires.some c.requires.inside c.requires.within c.put_piece.ensures.put c.put_piece.ensures.good
+    c.requires.root c.requires.some c.requires.inside c.requires.within c.put_piece.ensures.put c.put_piece.ensures.good
     (store_is_whole (g.T.Store.memory c.put_piece.new.store) c.put_piece.ensures.good (g.met.T.Store.page_length c.put_piece.new.store))
