@@ -7,3 +7,9 @@ pub mod First
 pub mod Chains
 pub mod WriteLaws
 pub mod Parts
+pub mod CutMemory
+pub mod TreeChanges
+pub mod LengthRows
+pub mod Rootless
+pub mod TreeCuts
+pub mod Truncating

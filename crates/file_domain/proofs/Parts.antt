@@ -60,7 +60,7 @@ unfolding view machine_of
 pages_are kernel = refl
 
 -- what is promised has room
-has : (kernel : Kernel) → FilesGood kernel → has_room (view (machine_of kernel)) ≡ true
+pub has : (kernel : Kernel) → FilesGood kernel → has_room (view (machine_of kernel)) ≡ true
 has kernel good =
     let promises = good.promises in
     let fits = good.standing.bank.words.promises in
