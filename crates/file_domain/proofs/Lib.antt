@@ -10,3 +10,9 @@ pub mod First
 pub mod Chains
 pub mod WriteLaws
 pub mod Parts
+pub mod Unseen
+pub mod PagesGiven
+pub mod Released
+pub mod Unnamed
+pub mod Gone
+pub mod Alone

@@ -1,3 +1,4 @@
 -- in reading order
 pub mod Good
 pub mod Effects
+pub mod Dropping
