@@ -13,3 +13,9 @@ pub mod LengthRows
 pub mod Rootless
 pub mod TreeCuts
 pub mod Truncating
+pub mod Unseen
+pub mod PagesGiven
+pub mod Released
+pub mod Unnamed
+pub mod Gone
+pub mod Alone

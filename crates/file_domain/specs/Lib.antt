@@ -2,3 +2,4 @@
 pub mod Good
 pub mod Effects
 pub mod Cutting
+pub mod Dropping

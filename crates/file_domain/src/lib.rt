@@ -2,12 +2,14 @@
 #![tactic(auto)]
 
 mod cutting;
+mod dropping;
 mod growing;
 mod lengths;
 mod reading;
 mod whole;
 mod writing;
 
+pub use dropping::drop_file;
 pub use growing::grow;
 pub use lengths::truncate;
 pub use reading::read_at;
