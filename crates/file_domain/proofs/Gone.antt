@@ -33,7 +33,7 @@ use Rattle.kernel_machine.proofs.PagesHeld.{file-pages, places-pages}
 use Rattle.kernel_machine.proofs.RootStands.{ring-real, standing_with_root}
 use Rattle.kernel_machine.proofs.ViewLaws.{inode_freed}
 use Rattle.file_domain.specs.Dropping.{DropsInode, GivesBack, IsNamedOnce, IsUnnamed, Releases, pages_given, row_pages}
-use Rattle.file_domain.specs.Good.{FilesGood}
+use Rattle.file_trees.specs.Good.{FilesGood}
 use Rattle.file_domain.proofs.Alone.{ring_once}
 use Rattle.file_domain.proofs.Keeping.{accounted_still}
 use Rattle.file_domain.proofs.Released.{state_left}

@@ -1,5 +1,5 @@
 -- The row of a file gets another length for which its tree is one already, and its promise goes along.
-use Rattle.std.proofs.Common.{◌≡◌, ℕ, ◌+◌, ◌/◌, ◌%◌, ◌<◌, ◌≤◌, Some, None, List, [], length, get_or, refl, ap, sym, subst, ◌∙◌, arith}
+use Rattle.std.proofs.Common.{◌≡◌, ℕ, ◌+◌, ◌<◌, ◌≤◌, Some, List, [], length, refl, ap, sym, subst, ◌∙◌, arith}
 use Rattle.kernel_tables.specs.declared.inode.Inode.{Inode}
 use Rattle.kernel_tables.specs.declared.inode.InodeKind.TheVariants as kind
 use Rattle.kernel_tables.specs.declared.row.Row.TheVariants.{Used}
@@ -25,13 +25,14 @@ use Rattle.kernel_machine.proofs.PagesHeld.{file-long}
 use Rattle.file_trees.specs.FileMemory.{IsFileMemory}
 use Rattle.file_trees.specs.Trees.{tree_memory}
 use Rattle.file_trees.proofs.Contents.{WholeTree}
-use Rattle.file_trees.proofs.FileMemory.{zero_get}
 use Rattle.file_trees.proofs.FileTrees.{memory_to_tree, there_found}
-use Rattle.file_trees.proofs.Pages.{page_absent}
+use Rattle.file_trees.proofs.FileMemory.{memory_empty}
+use Rattle.file_trees.proofs.FileTrees.{memory_absent}
 use Rattle.file_domain.specs.Effects.{with_file, Resizes}
-use Rattle.file_domain.specs.Good.{FilesGood, IsFileAt}
+use Rattle.file_trees.specs.Good.{FilesGood}
+use Rattle.file_domain.specs.Good.{IsFileAt}
 use Rattle.file_domain.proofs.CutMemory.{shorter}
-use Rattle.file_domain.proofs.Growth.{memory_absent, same_tree}
+use Rattle.file_domain.proofs.Growth.{same_tree}
 use Rattle.file_domain.proofs.Keeping.{accounted_still, promised_file}
 use Rattle.file_domain.proofs.Parts.{has}
 use Rattle.file_domain.proofs.Rows.{promising, with_row, promise_unseen, promise_stands, row_there, row_all, row_seen, row_stands}
@@ -48,11 +49,7 @@ file_promised kernel number inode good below file =
 
 -- a file without a tree has no pages, whatever its length is
 pub rootless_memory : (kernel : Kernel) (root size : ℕ) → root ≡ 0 → IsFileMemory (tree_memory kernel root) size
-rootless_memory kernel root size none = record {
-  within = λ number page there. let no : None ≡ Some page = sym (memory_absent kernel root number none) ∙ there in cc;
-  writable = λ number page there. let no : None ≡ Some page = sym (memory_absent kernel root number none) ∙ there in cc;
-  zeros = λ i past. ap (λ page. get_or page (i % 4096) 0) (page_absent kernel root (i / 4096) none) ∙ zero_get (i % 4096) (omega arith);
-}
+rootless_memory kernel root size none = memory_empty (tree_memory kernel root) (λ number. memory_absent kernel root number none) size
 
 -- how much is promised once a file has other bytes
 pub promised_length : (kernel : Kernel) (number size pages : ℕ) (inode : Inode) (bytes : List ℕ) → FilesGood kernel → number < 1024 → IsFileAt kernel number inode

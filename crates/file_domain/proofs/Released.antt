@@ -41,7 +41,7 @@ use Rattle.forest.specs.Objects.{OfFile}
 use Rattle.file_domain.specs.Dropping.{IsNamedOnce, Releases}
 use Rattle.file_domain.proofs.PagesGiven.{none_given, tree_pages_given}
 use Rattle.file_domain.proofs.Unseen.{ChangesLoose, loose_unseen}
-use Rattle.file_domain.proofs.Views.{bytes-apart}
+use Rattle.file_trees.proofs.Views.{bytes-apart}
 
 words-left : (old new : Kernel) → KeepsUnreleased old new
     → new.machine ≡ record new.machine { size = old.machine.size; quantum = old.machine.quantum; position = old.machine.position; next_pid = old.machine.next_pid }

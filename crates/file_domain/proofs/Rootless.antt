@@ -41,7 +41,8 @@ use Rattle.file_trees.proofs.Contents.{WholeTree}
 use Rattle.file_trees.proofs.Pages.{page_absent, page_none, zero_long}
 use Rattle.file_domain.specs.Cutting.{MapsNoneBelow}
 use Rattle.file_domain.specs.Effects.{with_file, Resizes}
-use Rattle.file_domain.specs.Good.{FilesGood, IsFileAt}
+use Rattle.file_trees.specs.Good.{FilesGood}
+use Rattle.file_domain.specs.Good.{IsFileAt}
 use Rattle.file_domain.proofs.CutMemory.{shorter}
 use Rattle.file_domain.proofs.Keeping.{accounted_still}
 use Rattle.file_domain.proofs.LengthRows.{promised_length}
@@ -49,7 +50,7 @@ use Rattle.file_domain.proofs.Parts.{has}
 use Rattle.file_domain.proofs.Puts.{has-tree}
 use Rattle.file_domain.proofs.Rows.{promising, with_row, promise_unseen, promise_stands, row_there, row_all, row_seen}
 use Rattle.file_domain.proofs.Seen.{right_row, file_row}
-use Rattle.file_domain.proofs.Views.{bytes-apart, state-now}
+use Rattle.file_trees.proofs.Views.{bytes-apart, state-now}
 
 -- ---- a tree that nobody has is released: nothing of it was seen
 

@@ -30,13 +30,14 @@ use Rattle.file_trees.proofs.Contents.{WholeTree}
 use Rattle.file_trees.proofs.FileTrees.{memory_to_tree}
 use Rattle.file_domain.specs.Cutting.{ChangesTree}
 use Rattle.file_domain.specs.Effects.{with_file}
-use Rattle.file_domain.specs.Good.{FilesGood, IsFileAt}
+use Rattle.file_trees.specs.Good.{FilesGood}
+use Rattle.file_domain.specs.Good.{IsFileAt}
 use Rattle.file_domain.proofs.Chains.{changes_more, file_twice}
 use Rattle.file_domain.proofs.Keeping.{accounted_still, same_promise}
 use Rattle.file_domain.proofs.Puts.{has-tree}
 use Rattle.file_domain.proofs.Rows.{seen_row}
 use Rattle.file_domain.proofs.Seen.{there_file, seen_file}
-use Rattle.file_domain.proofs.Views.{changes_memory, state-now}
+use Rattle.file_trees.proofs.Views.{changes_memory, state-now}
 
 module _ (k0 k1 : Kernel) (number : ℕ) (inode : Inode) (memory : Memory) (good : FilesGood k0) (below : number < 1024) (file : IsFileAt k0 number inode) (all : length k0.inodes ≡ 1024)
     (some : inode.root ≢ 0) (leaves : LeavesSpaces k0 k1 inode.root) (here : tree_memory k1 inode.root ≡ memory) (whole_now : WholeTree memory) (is : IsFileMemory memory inode.length)

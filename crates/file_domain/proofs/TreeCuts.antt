@@ -21,7 +21,8 @@ use Rattle.file_trees.proofs.FileTrees.{there_found}
 use Rattle.file_trees.proofs.Leaving.{leaves_same}
 use Rattle.file_domain.specs.Cutting.{ChangesTree, MapsBelow, without_rest}
 use Rattle.file_domain.specs.Effects.{with_file, Resizes}
-use Rattle.file_domain.specs.Good.{FilesGood, IsFileAt}
+use Rattle.file_trees.specs.Good.{FilesGood}
+use Rattle.file_domain.specs.Good.{IsFileAt}
 use Rattle.file_domain.proofs.Chains.{changes_more, file_twice}
 use Rattle.file_domain.proofs.CutMemory.{before_cut, cut_whole, memory_cut, memory_rest, rest_none, rest_some, rest_stays, rest_whole, short_bytes, short_memory, short_whole, shorter}
 use Rattle.file_domain.proofs.Growth.{memory_of_file}

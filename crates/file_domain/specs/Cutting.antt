@@ -1,5 +1,5 @@
 -- Files get another length: what the steps of a cut do, and the line of ftruncate.
-use Rattle.std.specs.Prelude.{◌≡◌, ℕ, ◌-◌, ◌/◌, ◌%◌, ◌<◌, ◌==◌, if◌then◌else◌, nat_lt, List, Result, Ok, Err, option_map}
+use Rattle.std.specs.Prelude.{◌≡◌, ℕ, ◌-◌, ◌/◌, ◌%◌, ◌<◌, ◌==◌, if◌then◌else◌, nat_lt, List, Some, None, Result, Ok, Err, option_map}
 use Rattle.kernel_tables.specs.declared.inode.Inode.{Inode}
 use Rattle.kernel_tables.specs.Kernel.{Kernel}
 use Rattle.unix_model.specs.declared.calls.Errno.{Errno}
@@ -19,7 +19,8 @@ use Rattle.kernel_machine.specs.View.{view, stored}
 use Rattle.file_trees.specs.Cuts.{cleared}
 use Rattle.file_trees.specs.Trees.{tree_memory}
 use Rattle.file_domain.specs.Effects.{with_file, ChangesFile, LeavesFiles, Resizes}
-use Rattle.file_domain.specs.Good.{FilesGood, IsFileAt}
+use Rattle.file_trees.specs.Good.{FilesGood}
+use Rattle.file_domain.specs.Good.{IsFileAt}
 
 -- ---- the steps of a cut
 

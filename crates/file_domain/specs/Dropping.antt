@@ -20,7 +20,7 @@ use Rattle.kernel_machine.specs.Machine.{machine_of}
 use Rattle.kernel_machine.specs.Standing.{Standing, page_owners}
 use Rattle.kernel_machine.specs.Trees.{HasTree}
 use Rattle.kernel_machine.specs.View.{view}
-use Rattle.file_domain.specs.Good.{FilesGood}
+use Rattle.file_trees.specs.Good.{FilesGood}
 
 -- ---- what is asked
 

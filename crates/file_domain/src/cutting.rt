@@ -8,7 +8,8 @@ ghost use Rattle.unix_model.specs.Numbers.{pages_of};
 ghost use Rattle.file_trees.specs.Cuts.{without_pages};
 ghost use Rattle.file_trees.specs.FileMemory.{IsFileMemory};
 ghost use Rattle.file_trees.specs.Trees.{tree_memory};
-ghost use Rattle.file_domain.specs.Good.{FilesGood, IsFileAt};
+ghost use Rattle.file_trees.specs.Good.{FilesGood};
+ghost use Rattle.file_domain.specs.Good.{IsFileAt};
 ghost use Rattle.file_domain.specs.Effects.{Resizes};
 ghost use Rattle.file_domain.specs.Cutting.{ChangesTree, MapsBelow, MapsNoneBelow, without_rest, Shortens};
 

@@ -8,7 +8,7 @@ ghost use Rattle.kernel_tables.specs.declared.row.Row.TheVariants.{Used};
 ghost use Rattle.kernel_tables.specs.Kernel.{Kernel, kernel_of, Sized, IsSized, inode_count, inode_at};
 ghost use Rattle.kernel_machine.specs.Invocations.{FixedBut};
 ghost use Rattle.kernel_machine.specs.Loose.{StandingBut, word_of};
-ghost use Rattle.file_domain.specs.Good.{FilesGood};
+ghost use Rattle.file_trees.specs.Good.{FilesGood};
 ghost use Rattle.file_domain.specs.Dropping.{DropsInode, IsNamedOnce, IsUnnamed, Releases, row_pages};
 
 use crate::growing::pages_of;

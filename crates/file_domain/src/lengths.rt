@@ -4,7 +4,8 @@ ghost use Rattle.std.specs.Prelude.{◌≡◌, ℕ, ◌<◌, ◌≤◌};
 ghost use Rattle.kn_base.specs.Memory.{Memory};
 ghost use Rattle.kernel_tables.specs.declared.inode.Inode.{Inode};
 ghost use Rattle.kernel_tables.specs.Kernel.{Kernel, kernel_of, Sized, IsSized, inode_count};
-ghost use Rattle.file_domain.specs.Good.{FilesGood, IsFileAt};
+ghost use Rattle.file_trees.specs.Good.{FilesGood};
+ghost use Rattle.file_domain.specs.Good.{IsFileAt};
 ghost use Rattle.file_domain.specs.Cutting.{Truncates};
 
 use crate::cutting::shrink;

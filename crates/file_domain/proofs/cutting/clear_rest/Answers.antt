@@ -4,7 +4,8 @@ use Rattle.kernel_tables.proofs.Sizes.{length-inodes}
 use Rattle.forest.specs.Calls.{IsOwn}
 use Rattle.kernel_forest.specs.Trees.{forest_of}
 use Rattle.kernel_machine.proofs.OwnerLaws.{store_is_whole}
-use Rattle.file_domain.proofs.Puts.{nodes_left, page_left, may_write}
+use Rattle.file_trees.proofs.Accounting.{nodes_left}
+use Rattle.file_domain.proofs.Puts.{page_left, may_write}
 use Rattle.file_domain.proofs.Seen.{file_tree, file_row}
 use Rattle.file_domain.proofs.TreeCuts.{clear_changes, clear_nothing}
 use Rattle.file_domain.proofs.cutting.clear_rest.Goals as goal

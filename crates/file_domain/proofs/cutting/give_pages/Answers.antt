@@ -5,7 +5,7 @@ use Rattle.kernel_machine.proofs.OwnerLaws.{store_is_whole}
 use Rattle.file_trees.specs.Cuts.{without_pages}
 use Rattle.file_trees.specs.Trees.{tree_memory}
 use Rattle.file_domain.specs.Cutting.{ChangesTree, MapsBelow}
-use Rattle.file_domain.proofs.Puts.{nodes_left}
+use Rattle.file_trees.proofs.Accounting.{nodes_left}
 use Rattle.file_domain.proofs.Seen.{file_tree, file_row}
 use Rattle.file_domain.proofs.TreeCuts.{cut_changes}
 use Rattle.file_domain.proofs.cutting.give_pages.Goals as goal
