@@ -181,6 +181,7 @@ pub fn add_name<T: Store>(store: &mut T, dir: u32, name: &[u8], inode: u32) -> R
     requires inode { is_named_kind (inode_seen (kernel_of (T.memory store.old)) inode) ≡ true }
     ensures added { AddsName (kernel_of (T.memory store.old)) (kernel_of (T.memory store.new)) dir name.now inode result }
     ensures good { FilesGood (kernel_of (T.memory store.new)) }
+    ensures directory { is_directory (inode_seen (kernel_of (T.memory store.new)) dir) ≡ true }
     ensures most { (kernel_of (T.memory store.new)).machine.nodes_taken ≤ (kernel_of (T.memory store.old)).machine.nodes_taken + 13 }
     ensures keeps { T.keeps store.old store.new }
 {

@@ -31,6 +31,7 @@ fn change_place<T: Store>(
     ensures refused { OnErr result (kernel_of (T.memory store.new) ≡ kernel_of (T.memory store.old)) }
     ensures promised { (kernel_of (T.memory store.new)).machine.promised ≡ (kernel_of (T.memory store.old)).machine.promised }
     ensures good { FilesGood (kernel_of (T.memory store.new)) }
+    ensures directory { is_directory (inode_seen (kernel_of (T.memory store.new)) dir) ≡ true }
     ensures most { (kernel_of (T.memory store.new)).machine.nodes_taken ≤ (kernel_of (T.memory store.old)).machine.nodes_taken + 12 }
     ensures keeps { T.keeps store.old store.new }
 {
@@ -54,6 +55,7 @@ pub fn remove_name<T: Store>(store: &mut T, dir: u32, name: &[u8]) -> Result<u32
     ensures refused { OnErr result (kernel_of (T.memory store.new) ≡ kernel_of (T.memory store.old)) }
     ensures promised { (kernel_of (T.memory store.new)).machine.promised ≡ (kernel_of (T.memory store.old)).machine.promised }
     ensures good { FilesGood (kernel_of (T.memory store.new)) }
+    ensures directory { is_directory (inode_seen (kernel_of (T.memory store.new)) dir) ≡ true }
     ensures most { (kernel_of (T.memory store.new)).machine.nodes_taken ≤ (kernel_of (T.memory store.old)).machine.nodes_taken + 12 }
     ensures keeps { T.keeps store.old store.new }
 {
@@ -76,6 +78,7 @@ pub fn replace_name<T: Store>(
     ensures refused { OnErr result (kernel_of (T.memory store.new) ≡ kernel_of (T.memory store.old)) }
     ensures promised { (kernel_of (T.memory store.new)).machine.promised ≡ (kernel_of (T.memory store.old)).machine.promised }
     ensures good { FilesGood (kernel_of (T.memory store.new)) }
+    ensures directory { is_directory (inode_seen (kernel_of (T.memory store.new)) dir) ≡ true }
     ensures most { (kernel_of (T.memory store.new)).machine.nodes_taken ≤ (kernel_of (T.memory store.old)).machine.nodes_taken + 12 }
     ensures keeps { T.keeps store.old store.new }
 {

@@ -10,7 +10,7 @@ use Rattle.dir_domain.specs.Rows.{bytes_stored}
 use Rattle.dir_domain.proofs.Adding.{name-there}
 use Rattle.dir_domain.proofs.AddsNames.{name-filled, name-appended}
 use Rattle.dir_domain.proofs.FoundPlaces.{first-named}
-use Rattle.dir_domain.proofs.Keeping.{dir_page_left}
+use Rattle.dir_domain.proofs.Keeping.{dir_page_left, directory-now, directory-added}
 use Rattle.dir_domain.proofs.Searches.{least-inside}
 use Rattle.dir_domain.proofs.Seen.{places-are}
 use Rattle.dir_domain.proofs.add.add_name.Goals as goal
@@ -49,7 +49,7 @@ returns-in-Some-first_hole g c =
     let new = kernel_of (g.T.Store.memory c.put_place.new.store) in
     let filled = name-filled old c.args.dir c.args.inode c.directory_row-row.result c.args.name.now c.requires.good c.directory_row-row.ensures c.requires.directory c.requires.name c.ranges.inode.fits c.in-None.ensures
     new c.in-Some-first_hole.number c.entry_bytes-bytes.result c.entry_bytes-bytes.ensures c.in-Some-first_hole.ensures c.put_place.ensures.changed c.put_place.ensures.promised in
-    record { added = filled.0; good = filled.1; most = c.put_place.ensures.most; keeps = c.put_place.ensures.keeps }
+    record { added = filled.0; good = filled.1; directory = directory-now old new c.args.dir _ filled.0.1; most = c.put_place.ensures.most; keeps = c.put_place.ensures.keeps }
 
 pub returns-in-None-first_hole : goal.returns-in-None-first_hole
 returns-in-None-first_hole g c =
@@ -57,4 +57,4 @@ returns-in-None-first_hole g c =
     let new = kernel_of (g.T.Store.memory c.append.new.store) in
     let appended = name-appended old c.args.dir c.args.inode c.directory_row-row.result c.args.name.now c.requires.good c.directory_row-row.ensures c.requires.directory c.requires.name c.ranges.inode.fits c.in-None.ensures
     new c.append.result c.entry_bytes-bytes.result c.entry_bytes-bytes.ensures c.in-None-first_hole.ensures c.append.ensures.appended in
-    record { added = appended.0; good = appended.1; most = c.append.ensures.most; keeps = c.append.ensures.keeps }
+    record { added = appended.0; good = appended.1; directory = directory-added old new c.args.dir c.args.inode c.args.name.now c.append.result c.requires.directory appended.0; most = c.append.ensures.most; keeps = c.append.ensures.keeps }

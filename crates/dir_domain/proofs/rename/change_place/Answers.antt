@@ -7,7 +7,7 @@ use Rattle.dir_domain.specs.Changes.{ChangesPlaces}
 use Rattle.dir_domain.specs.Rows.{bytes_stored, places_seen}
 use Rattle.file_trees.proofs.Accounting.{nodes_left}
 use Rattle.dir_domain.proofs.FoundPlaces.{first-named}
-use Rattle.dir_domain.proofs.Keeping.{dir_page_left, good-same}
+use Rattle.dir_domain.proofs.Keeping.{dir_page_left, directory-now, good-same}
 use Rattle.dir_domain.proofs.Names.{named-tree, place-changed, found-told, none-told}
 use Rattle.dir_domain.proofs.Seen.{places-are}
 use Rattle.dir_domain.proofs.rename.change_place.Goals as goal
@@ -53,3 +53,7 @@ returns-in-Some-clause-good g c =
     let is = c.directory_row-row.ensures in
     good-same old new c.args.dir _ c.requires.good is.below (c.write_place.ensures.changed c.args.dir is) c.requires.directory
     (length-set (places_seen old c.args.dir) c.in-Some.named.number (place_in c.args.bytes.now)) c.write_place.ensures.promised
+
+pub returns-in-Some-clause-directory : goal.returns-in-Some-clause-directory
+returns-in-Some-clause-directory g c =
+    directory-now (kernel_of (g.T.Store.memory c.args.store.now)) (kernel_of (g.T.Store.memory c.write_place.new.store)) c.args.dir _ (c.write_place.ensures.changed c.args.dir c.directory_row-row.ensures)
