@@ -172,14 +172,14 @@ fn count_of(plain: &Plain, number: u32) -> u32 {
 }
 
 /// The page of zeros is mapped at the page of an index.
-pub fn add_page(plain: &mut Plain, space: usize, index: usize)
+pub fn add_page(plain: &mut Plain, space: usize, index: usize, writable: bool)
     requires space { space < 8 }
     requires index { index < 8 }
 {
     own_way(plain, space, index);
     let line = Line {
         byte: 0,
-        writable: true,
+        writable,
         page: 0,
     };
     set_line(plain, space, index, Some(line));
@@ -265,22 +265,17 @@ fn copy_page(plain: &mut Plain, from: usize, to: usize, index: usize)
     }
 }
 
-/// A space gets the map of another one, and shares all of it.
-pub fn copy_space(plain: &mut Plain, from: usize, to: usize)
-    requires from { from < 8 }
-    requires to { to < 8 }
-{
-    for index in 0..8 {
-        copy_page(plain, from, to, index);
-    }
-}
-
-/// Nothing is mapped in a space.
-pub fn clear_space(plain: &mut Plain, space: usize)
+/// A space gets the map of another one, and shares all of it. Where both are the same, nothing is mapped in it.
+pub fn renew_space(plain: &mut Plain, space: usize, from: usize)
     requires space { space < 8 }
+    requires from { from < 8 }
 {
     for index in 0..8 {
-        forget_page(plain, space, index);
+        if from == space {
+            forget_page(plain, space, index);
+        } else {
+            copy_page(plain, from, space, index);
+        }
     }
 }
 

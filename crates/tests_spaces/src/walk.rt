@@ -9,10 +9,9 @@ ghost use Rattle.seg_tree.specs.Checks.{NodesInRange};
 ghost use Rattle.tests_spaces.specs.Ready.{AreSpaces, AreSpacesBut, IsReady, IsTestSpace, KeepsSpaces};
 
 use crate::checked::keys_in_range;
-use crate::guarded::{
-    add_space, bank_of, count_mapped, drop_one, map, own, put, seal, share_of, take_away,
-};
+use crate::guarded::{bank_of, count_mapped, drop_one, map, own, put, seal, take_away};
 use crate::plain::{self, Line, Plain, line_of, page_number};
+use crate::rows::{new_one, shared_one};
 use kn_base::Store;
 use obj_store::{NoMemory, RamStore};
 use seg_tree::{Space, check_space, find};
@@ -71,7 +70,7 @@ fn takes_enough<T: Store>(store: &T, plain: &Plain, roots: u32) -> bool
     taken.pages == plain::pages_taken(plain) && taken.nodes == nodes
 }
 
-// Maps a page, or finds that it is mapped.
+// Maps a page where none is mapped.
 fn map_one<T: Store>(
     rt: &impl Abort,
     store: &mut T,
@@ -79,6 +78,7 @@ fn map_one<T: Store>(
     plain: &mut Plain,
     number: usize,
     index: usize,
+    writable: bool,
 )
     requires ready { IsReady (kernel_of (T.memory store.old)) }
     requires space { IsTestSpace (kernel_of (T.memory store.old)) space.0.0 }
@@ -87,11 +87,8 @@ fn map_one<T: Store>(
     ensures ready { IsReady (kernel_of (T.memory store.new)) }
     ensures spaces { KeepsSpaces (kernel_of (T.memory store.old)) (kernel_of (T.memory store.new)) }
 {
-    let mapped = map(store, space, page_number(index), true);
-    assert!(rt; mapped == line_of(plain, number, index).is_none());
-    if mapped {
-        plain::add_page(plain, number, index);
-    }
+    assert!(rt; map(store, space, page_number(index), writable));
+    plain::add_page(plain, number, index, writable);
 }
 
 // Puts a byte, or finds that the page can't be written.
@@ -179,8 +176,8 @@ fn unmap_one<T: Store>(
     plain::take_page(plain, number, index);
 }
 
-// One call on one page of a space.
-fn act<T: Store>(
+// One call on a page of a space that may be mapped.
+fn change_one<T: Store>(
     rt: &impl Abort,
     store: &mut T,
     space: Space,
@@ -197,11 +194,40 @@ fn act<T: Store>(
     let index = random as usize / 2048 % 8;
     let byte = (random / 131_072 % 128) as u8;
     match random / 16384 % 8 {
-        0 | 1 | 2 => map_one(rt, store, space, plain, number, index),
-        3 | 4 => put_one(rt, store, space, plain, number, index, byte),
-        5 => seal_one(rt, store, space, plain, number, index),
-        6 => own_one(rt, store, space, plain, number, index),
-        _ => unmap_one(rt, store, space, plain, number, index),
+        0 | 1 => unmap_one(rt, store, space, plain, number, index),
+        2 => seal_one(rt, store, space, plain, number, index),
+        3 => own_one(rt, store, space, plain, number, index),
+        _ => put_one(rt, store, space, plain, number, index, byte),
+    }
+}
+
+// One call on one page of a space. Where none is mapped, one is, or it is found that there is none to be written.
+fn act<T: Store>(
+    rt: &impl Abort,
+    store: &mut T,
+    space: Space,
+    plain: &mut Plain,
+    number: usize,
+    random: u32,
+)
+    requires ready { IsReady (kernel_of (T.memory store.old)) }
+    requires space { IsTestSpace (kernel_of (T.memory store.old)) space.0.0 }
+    requires number { number < 8 }
+    ensures ready { IsReady (kernel_of (T.memory store.new)) }
+    ensures spaces { KeepsSpaces (kernel_of (T.memory store.old)) (kernel_of (T.memory store.new)) }
+{
+    let index = random as usize / 2048 % 8;
+    let writable = random / 131_072 % 8 != 0;
+    let missing = line_of(plain, number, index).is_none();
+    match random / 16384 % 8 {
+        3 | 4 => change_one(rt, store, space, plain, number, random),
+        _ => {
+            if missing {
+                map_one(rt, store, space, plain, number, index, writable)
+            } else {
+                change_one(rt, store, space, plain, number, random)
+            }
+        }
     }
 }
 
@@ -219,9 +245,10 @@ fn act_on_one<T: Store>(
     ensures spaces { AreSpaces (kernel_of (T.memory store.new)) spaces.now }
 {
     let number = random as usize / 256 % 8;
-    if number < spaces.len() {
-        act(rt, store, spaces[number], plain, number, random);
+    if number >= spaces.len() {
+        panic!(rt; "fewer than eight spaces");
     }
+    act(rt, store, spaces[number], plain, number, random);
 }
 
 // Keeps one space more.
@@ -234,48 +261,28 @@ fn keep(rt: &impl Abort, spaces: &mut Vec<Space>, space: Space)
     }
 }
 
-// One space more, where there aren't eight.
+// One space more.
 fn add_one<T: Store>(rt: &impl Abort, store: &mut T, spaces: &mut Vec<Space>)
     requires ready { IsReady (kernel_of (T.memory store.old)) }
     requires spaces { AreSpaces (kernel_of (T.memory store.old)) spaces.old.items }
     ensures ready { IsReady (kernel_of (T.memory store.new)) }
     ensures spaces { AreSpaces (kernel_of (T.memory store.new)) spaces.new.items }
 {
-    if spaces.len() >= 8 {
-        return;
-    }
-    match add_space(store) {
-        Some(space) => keep(rt, spaces, space),
-        None => panic!(rt; "no room"),
-    }
+    let space = new_one(rt, store);
+    keep(rt, spaces, space);
 }
 
-// A space is shared, where there aren't eight.
-fn share_one<T: Store>(
-    rt: &impl Abort,
-    store: &mut T,
-    spaces: &mut Vec<Space>,
-    plain: &mut Plain,
-    random: u32,
-)
+// Eight spaces.
+fn eight<T: Store>(rt: &impl Abort, alloc: Global, store: &mut T) -> Vec<Space>
     requires ready { IsReady (kernel_of (T.memory store.old)) }
-    requires spaces { AreSpaces (kernel_of (T.memory store.old)) spaces.old.items }
     ensures ready { IsReady (kernel_of (T.memory store.new)) }
-    ensures spaces { AreSpaces (kernel_of (T.memory store.new)) spaces.new.items }
+    ensures spaces { AreSpaces (kernel_of (T.memory store.new)) result.items }
 {
-    let number = random as usize / 256 % 8;
-    let count = spaces.len();
-    if count >= 8 || number >= count {
-        return;
+    let mut spaces = Vec::new(alloc);
+    for _number in 0..8u8 {
+        add_one(rt, store, &mut spaces);
     }
-    let space = spaces.as_slice()[number];
-    match share_of(store, space) {
-        Some(copy) => {
-            plain::copy_space(plain, number, count);
-            keep(rt, spaces, copy);
-        }
-        None => panic!(rt; "no room"),
-    }
+    spaces
 }
 
 // A space, or the new one where it is the one that has gone.
@@ -307,28 +314,43 @@ fn with_new<T: Store>(
     all
 }
 
-// A space is dropped, and another one takes its number. The spaces.
+// A copy of a space, or a new one where it is the one that has gone.
+fn next_one<T: Store>(rt: &impl Abort, store: &mut T, gone: Space, from: Space) -> Space
+    requires ready { IsReady (kernel_of (T.memory store.old)) }
+    requires from { from.0.0 ≢ gone.0.0 → IsTestSpace (kernel_of (T.memory store.old)) from.0.0 }
+    ensures ready { IsReady (kernel_of (T.memory store.new)) }
+    ensures spaces { KeepsSpaces (kernel_of (T.memory store.old)) (kernel_of (T.memory store.new)) }
+    ensures added { IsTestSpace (kernel_of (T.memory store.new)) result.0.0 }
+{
+    if from.0.0 == gone.0.0 {
+        new_one(rt, store)
+    } else {
+        shared_one(rt, store, from)
+    }
+}
+
+// A space is dropped, and a copy of another one takes its number, or a new one. The spaces.
 fn renew<T: Store>(
     rt: &impl Abort,
     alloc: Global,
     store: &mut T,
     spaces: &[Space],
     gone: Space,
+    from: Space,
 ) -> Vec<Space>
     requires ready { IsReady (kernel_of (T.memory store.old)) }
     requires spaces { AreSpaces (kernel_of (T.memory store.old)) spaces.now }
     requires gone { IsTestSpace (kernel_of (T.memory store.old)) gone.0.0 }
+    requires from { IsTestSpace (kernel_of (T.memory store.old)) from.0.0 }
     ensures ready { IsReady (kernel_of (T.memory store.new)) }
     ensures spaces { AreSpaces (kernel_of (T.memory store.new)) result.items }
 {
     drop_one(store, gone);
-    match add_space(store) {
-        Some(new) => with_new(rt, alloc, store, spaces, gone, new),
-        None => panic!(rt; "no room"),
-    }
+    let new = next_one(rt, store, gone, from);
+    with_new(rt, alloc, store, spaces, gone, new)
 }
 
-// One of the spaces is dropped, and another one takes its number.
+// One of the spaces is dropped, and a copy of another one takes its number; or a new one, where both are the same.
 fn renew_one<T: Store>(
     rt: &impl Abort,
     alloc: Global,
@@ -343,12 +365,14 @@ fn renew_one<T: Store>(
     ensures spaces { AreSpaces (kernel_of (T.memory store.new)) result.items }
 {
     let number = random as usize / 256 % 8;
-    if number >= spaces.len() {
-        return spaces;
+    let other = random as usize / 2048 % 8;
+    if number >= spaces.len() || other >= spaces.len() {
+        panic!(rt; "fewer than eight spaces");
     }
-    plain::clear_space(plain, number);
+    plain::renew_space(plain, number, other);
     let gone = spaces.as_slice()[number];
-    renew(rt, alloc, store, spaces.as_slice(), gone)
+    let from = spaces.as_slice()[other];
+    renew(rt, alloc, store, spaces.as_slice(), gone, from)
 }
 
 // One turn of the walk. The spaces after it.
@@ -356,7 +380,7 @@ fn turn<T: Store>(
     rt: &impl Abort,
     alloc: Global,
     store: &mut T,
-    mut spaces: Vec<Space>,
+    spaces: Vec<Space>,
     plain: &mut Plain,
     random: u32,
 ) -> Vec<Space>
@@ -365,12 +389,10 @@ fn turn<T: Store>(
     ensures ready { IsReady (kernel_of (T.memory store.new)) }
     ensures spaces { AreSpaces (kernel_of (T.memory store.new)) result.items }
 {
-    match random % 128 {
-        0 => add_one(rt, store, &mut spaces),
-        1 | 2 => share_one(rt, store, &mut spaces, plain, random),
-        3 => return renew_one(rt, alloc, store, spaces, plain, random),
-        _ => act_on_one(rt, store, spaces.as_slice(), plain, random),
+    if random % 16 == 0 {
+        return renew_one(rt, alloc, store, spaces, plain, random);
     }
+    act_on_one(rt, store, spaces.as_slice(), plain, random);
     spaces
 }
 
@@ -425,9 +447,8 @@ fn count_all<T: Store>(rt: &impl Abort, store: &T, spaces: &[Space], plain: &Pla
 fn walks<T: Store>(rt: &impl Abort, alloc: Global, store: &mut T)
     requires ready { IsReady (kernel_of (T.memory store.old)) }
 {
-    let mut spaces = Vec::new(alloc);
+    let mut spaces = eight(rt, alloc, store);
     let mut plain = plain::empty();
-    add_one(rt, store, &mut spaces);
     let mut random = 20_261_201u32;
     for round in 0..2000u32 {
         random = random.wrapping_mul(1_664_525).wrapping_add(1_013_904_223);

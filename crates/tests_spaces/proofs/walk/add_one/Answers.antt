@@ -7,6 +7,6 @@ use Rattle.tests_spaces.proofs.walk.add_one.Goals as goal
 pub returns-clause-spaces : goal.returns-clause-spaces
 returns-clause-spaces g c =
     let old = kernel_of (g.T.Store.memory c.args.store.now) in
-    let new = kernel_of (g.T.Store.memory c.add_space.new.store) in
+    let new = kernel_of (g.T.Store.memory c.new_one-space.new.store) in
     subst (AreSpaces new) (sym c.keep.ensures)
-    (space_more new c.args.spaces.now.items c.in-Some.space (spaces_kept old new c.args.spaces.now.items c.add_space.ensures.spaces c.requires.spaces) c.in-Some.ensures.added)
+    (space_more new c.args.spaces.now.items c.new_one-space.result (spaces_kept old new c.args.spaces.now.items c.new_one-space.ensures.spaces c.requires.spaces) c.new_one-space.ensures.added)
