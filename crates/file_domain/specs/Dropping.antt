@@ -32,7 +32,7 @@ pub record IsUnnamed (kernel : Kernel) (number : ℕ) (inode : Inode) : Type 0 w
   pub entries_counted : inode.entries ≡ links (view (machine_of kernel)).files.inodes number
   pub opens_counted : inode.opens ≡ opens (view (machine_of kernel)).files.descriptions number
 
--- the page of a pipe is named once, by the pipe's row
+-- a page of the bank is named once
 abbrev pub IsNamedOnce : Kernel → ℕ → Type 0
 IsNamedOnce kernel page = IsTakenOnce (entry_at kernel.page_entries (page - first_page kernel.size))
 
