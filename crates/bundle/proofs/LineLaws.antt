@@ -1,9 +1,7 @@
 -- From lines that were read to those of the definition.
-use Rattle.std.proofs.Common.{◌≡◌, ℕ, ◌≤◌, List, [], ◌∷◌, length, Option, Some, Result, Ok, Err, Bool, true, false, refl, ap, arith}
+use Rattle.std.proofs.Common.{◌≡◌, ℕ, ◌<◌, ◌≤◌, List, [], ◌∷◌, length, Option, Some, Ok, Err, refl, ap, arith}
 use Rattle.std.proofs.lemmas.Bool.{lt-ltb, le-ltb}
-use Rattle.kn_text.specs.declared.lines.LineFault.{LineFault}
-use Rattle.kn_text.specs.declared.lines.LineFault.TheVariants as fault
-use Rattle.kn_text.specs.Lines.{IsFirstLine, IsNoLine, IsTooLong, begun_by}
+use Rattle.kn_text.specs.Lines.{IsFirstLine, IsNoLine}
 use Rattle.unix_model.specs.Texts.{line_front, line_rest}
 use Rattle.bundle.specs.declared.fault.BundleKind.TheVariants.{Syntax, TooLong}
 use Rattle.bundle.specs.Outcomes.{next_line}
@@ -23,15 +21,7 @@ unfolding next_line
 line-missing bytes line left none = rw none.ended refl
 
 -- it is too long
-pub line-long : (bytes line : List ℕ) (left : Option (List ℕ)) → IsTooLong bytes line left → next_line bytes ≡ Err TooLong
+pub line-long : (bytes : List ℕ) → 1024 < length (line_front bytes) → next_line bytes ≡ Err TooLong
 unfolding next_line line_front
-line-long [] line left long = absurd (omega (arith, long.long))
-line-long (byte ∷ bytes) line left long = rw (lt-ltb 1024 (length (line_front (byte ∷ bytes))) long.long) refl
-
--- a call begins one line at the most
-pub begun-one : (read : Result Bool LineFault) (line : List ℕ) → begun_by read line ≤ 1
-begun-one (Ok true) line = omega arith
-begun-one (Ok false) line = omega arith
-begun-one (Err fault.TooLong) line = omega arith
-begun-one (Err fault.ReadFault) [] = omega arith
-begun-one (Err fault.ReadFault) (byte ∷ line) = omega arith
+line-long [] long = absurd (omega (arith, long))
+line-long (byte ∷ bytes) long = rw (lt-ltb 1024 (length (line_front (byte ∷ bytes))) long) refl

@@ -1,4 +1,6 @@
 pub mod Outcomes
+pub mod LongLines
+pub mod Lines
 pub mod Paths
 pub mod Forms
 pub mod Keys

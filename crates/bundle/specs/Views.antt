@@ -2,7 +2,7 @@
 use Rattle.std.specs.Prelude.{◌≡◌, ℕ, ◌+◌, ◌*◌, ◌≤◌, ◌++◌, Bool, true, false, List, Option, Some, None}
 use Rattle.std.specs.Borrow.{Bor}
 use Rattle.std.specs.Global.{Vec}
-use Rattle.kn_text.specs.Lines as lines
+use Rattle.bundle.specs.Lines as lines
 use Rattle.bundle.specs.declared.reader.BundleReader.{BundleReader}
 use Rattle.bundle.specs.declared.entry.Entry.{Entry}
 use Rattle.bundle.specs.declared.entry.Entry.TheVariants.{Dir, File}

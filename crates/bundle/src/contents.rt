@@ -2,7 +2,7 @@
 
 ghost use Rattle.std.specs.Prelude.{◌≡◌, ◌≢◌, ◌+◌, ◌-◌, ◌^◌, ◌<◌, ◌≤◌, ℕ, List, [], Ok, not, is_some, IfOk, IfErr};
 ghost use Rattle.kn_io.specs.Faults.{Rose};
-ghost use Rattle.kn_text.specs.Lines.{pending, lines_begun};
+ghost use Rattle.bundle.specs.Lines.{pending, lines_begun};
 ghost use Rattle.rv_asm.specs.Files.{IsFile};
 ghost use Rattle.rv_asm.specs.Programs.{Program, assembled, scan_lines, start_scan};
 ghost use Rattle.unix_model.specs.Texts.{lines_of};
@@ -13,11 +13,11 @@ ghost use Rattle.bundle.specs.Streams.{CountsSame, TakesMade, FailsToMake, Fails
 ghost use Rattle.bundle.specs.Views.{AreFew, IsContent, what_view};
 
 use crate::fault::{BundleFault, BundleKind};
+use crate::line::Line;
+use crate::lines::Lines;
 use crate::parts::{PartEnd, read_part};
 use crate::said::{Form, What};
-use arrayvec::ArrayVec;
 use kn_io::Source;
-use kn_text::LineReader;
 use rv_asm::{AsmFault, assemble, check_front};
 use std::alloc::Global;
 
@@ -26,8 +26,8 @@ use std::alloc::Global;
 pub fn content<S: Source>(
     alloc: Global,
     what: What,
-    lines: &mut LineReader,
-    into: &mut ArrayVec<u8, 1024>,
+    lines: &mut Lines,
+    into: &mut Line,
     from: &mut S,
 ) -> Result<Option<Vec<u8>>, BundleFault>
     requires begins { pending lines.old ≡ [] }
@@ -62,8 +62,8 @@ fn part_file<S: Source>(
     alloc: Global,
     form: Form,
     count: u32,
-    lines: &mut LineReader,
-    into: &mut ArrayVec<u8, 1024>,
+    lines: &mut Lines,
+    into: &mut Line,
     from: &mut S,
 ) -> Result<Vec<u8>, BundleFault>
     requires begins { pending lines.old ≡ [] }
@@ -89,8 +89,8 @@ fn plain_file<S: Source>(
     alloc: Global,
     form: Form,
     count: u32,
-    lines: &mut LineReader,
-    into: &mut ArrayVec<u8, 1024>,
+    lines: &mut Lines,
+    into: &mut Line,
     from: &mut S,
 ) -> Result<Vec<u8>, BundleFault>
     requires begins { pending lines.old ≡ [] }
@@ -116,8 +116,8 @@ fn plain_file<S: Source>(
 fn source_file<S: Source>(
     alloc: Global,
     count: u32,
-    lines: &mut LineReader,
-    into: &mut ArrayVec<u8, 1024>,
+    lines: &mut Lines,
+    into: &mut Line,
     from: &mut S,
 ) -> Result<Vec<u8>, BundleFault>
     requires begins { pending lines.old ≡ [] }

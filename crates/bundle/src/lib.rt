@@ -9,6 +9,7 @@ mod entry;
 mod fault;
 mod key;
 mod known;
+mod line;
 mod lines;
 mod parts;
 mod paths;

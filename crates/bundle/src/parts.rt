@@ -2,17 +2,16 @@
 
 ghost use Rattle.std.specs.Prelude.{◌≡◌, ◌⊎◌, ◌+◌, ◌-◌, ◌^◌, ◌<◌, ◌≤◌, [], IfOk, IfErr};
 ghost use Rattle.kn_io.specs.Faults.{Rose};
-ghost use Rattle.kn_text.specs.Lines.{pending, lines_begun};
+ghost use Rattle.bundle.specs.Lines.{pending, lines_begun};
 ghost use Rattle.bundle.specs.Streams.{CountsSame, TakesPart};
 ghost use Rattle.bundle.specs.Views.{Adds};
 
 use crate::fault::{BundleFault, BundleKind};
-use crate::lines::read_line;
+use crate::line::Line;
+use crate::lines::{Lines, read_line};
 use crate::said::Form;
-use arrayvec::ArrayVec;
 use hex::FromHexError;
 use kn_io::Source;
-use kn_text::LineReader;
 use std::alloc::{AllocError, Global};
 
 /// How the lines behind an entry line ended.
@@ -30,8 +29,8 @@ pub fn read_part<S: Source>(
     alloc: Global,
     form: Form,
     count: u32,
-    lines: &mut LineReader,
-    into: &mut ArrayVec<u8, 1024>,
+    lines: &mut Lines,
+    into: &mut Line,
     from: &mut S,
     bytes: &mut Vec<u8>,
 ) -> Result<PartEnd, BundleFault>

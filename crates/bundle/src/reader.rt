@@ -3,8 +3,8 @@
 ghost use Rattle.std.specs.Prelude.{◌≡◌, ◌≢◌, ◌+◌, ◌-◌, ◌*◌, ◌^◌, ◌<◌, ◌≤◌, [], option_map, IfOk, OnOk, IfErr, OnErr, IfSome};
 ghost use Rattle.std.specs.Option.{option_to_list};
 ghost use Rattle.kn_io.specs.Faults.{Rose};
-ghost use Rattle.kn_text.specs.Lines as lines;
-ghost use Rattle.kn_text.specs.Lines.{lines_begun};
+ghost use Rattle.bundle.specs.Lines as lines;
+ghost use Rattle.bundle.specs.Lines.{lines_begun};
 ghost use Rattle.bundle.specs.Bundles.{start};
 ghost use Rattle.bundle.specs.Contents.{Content, made_of};
 ghost use Rattle.bundle.specs.EntryLines.{makes_directory};
@@ -18,11 +18,10 @@ use crate::contents::content;
 use crate::entry::{Bytes, Entry};
 use crate::fault::{BundleFault, BundleKind, NotAdded};
 use crate::known::Known;
-use crate::lines::read_line;
+use crate::line::Line;
+use crate::lines::{Lines, read_line};
 use crate::said::{Named, entry_line};
-use arrayvec::ArrayVec;
 use kn_io::{NoMemory, Source};
-use kn_text::LineReader;
 use std::alloc::Global;
 
 /// The first line of a bundle.
@@ -37,8 +36,8 @@ const MOST_ENTRIES: u32 = 4096;
 /// Reads the entries of a bundle, one at a time.
 #[derive(Drop)]
 pub struct BundleReader {
-    lines: LineReader,
-    line: ArrayVec<u8, 1024>,
+    lines: Lines,
+    line: Line,
     room: u32,
     known: Known,
 }
@@ -56,8 +55,8 @@ impl BundleReader {
     {
         match Known::new(alloc) {
             Ok(known) => Ok(BundleReader {
-                lines: lines_behind(first),
-                line: ArrayVec::new(),
+                lines: Lines::new(first),
+                line: Line::new(),
                 room: MOST_ENTRIES,
                 known,
             }),
@@ -95,8 +94,8 @@ impl BundleReader {
     // on.
     #[tactic(auto, unfolding(crate::specs::Bundles::accepted, crate::specs::Bundles::line_said))]
     fn accepted(&mut self, alloc: Global) -> Result<Option<Named>, BundleFault>
-        ensures says { IfOk result (λ told. Says self.old.room (known_of self.old.known.paths) (lines_begun self.old.lines) self.old.line.items (option_map named_view told)) }
-        ensures nothing { IfErr result (SaysNothing self.old.room (known_of self.old.known.paths) (lines_begun self.old.lines) self.old.line.items) }
+        ensures says { IfOk result (λ told. Says self.old.room (known_of self.old.known.paths) (lines_begun self.old.lines) self.old.line (option_map named_view told)) }
+        ensures nothing { IfErr result (SaysNothing self.old.room (known_of self.old.known.paths) (lines_begun self.old.lines) self.old.line) }
         ensures known { IfOk result (λ told. IfSome told (λ named. known_of self.new.known.paths ≡ with_path (known_of self.old.known.paths) named.path (makes_directory (what_view named.what)))) }
         ensures room { IfOk result (λ told. IfSome told (λ named. 0 < self.old.room)) }
         ensures few { IfOk result (λ told. IfSome told (λ named. AreFew named.what)) }
@@ -168,17 +167,6 @@ impl BundleReader {
         };
         self.room -= 1;
         Ok(entry(named.path, file, line))
-    }
-}
-
-// A reader of lines of which this byte was read already.
-fn lines_behind(first: Option<u8>) -> LineReader
-    ensures pending { lines.pending result ≡ option_to_list first }
-    ensures line { lines_begun result ≡ 0 }
-{
-    match first {
-        Some(first) => LineReader::with_first(first),
-        None => LineReader::new(),
     }
 }
 

@@ -1,6 +1,6 @@
 //! What one line of a bundle says.
 
-ghost use Rattle.std.specs.Prelude.{◌≡◌, ◌≤◌, ◌<◌, length, position, option_map, IfSome, None};
+ghost use Rattle.std.specs.Prelude.{◌≡◌, ◌≤◌, ◌<◌, [], ◌∷◌, true, length, position, slice_index, option_map, IfSome, IfNone, None};
 ghost use Rattle.unix_model.specs.Texts as texts;
 ghost use Rattle.userland.specs.Programs.{source_named};
 ghost use Rattle.bundle.specs.EntryLines as model;
@@ -111,7 +111,7 @@ fn part_line(form: Form, operands: &[u8]) -> Option<Said<'_>>
     ensures says { option_map said_view result ≡ model.part_line form operands.now }
     ensures few { IfSome result (λ told. AreFew told.what) }
 {
-    let (path, behind) = match halves_of(operands) {
+    let (path, behind) = match operand_halves(operands) {
         Some(halves) => halves,
         None => return None,
     };
@@ -133,7 +133,7 @@ fn user_line(operands: &[u8]) -> Option<Said<'_>>
     ensures says { option_map said_view result ≡ model.user_line operands.now }
     ensures few { IfSome result (λ told. AreFew told.what) }
 {
-    let (path, behind) = match halves_of(operands) {
+    let (path, behind) = match operand_halves(operands) {
         Some(halves) => halves,
         None => return None,
     };
@@ -154,9 +154,24 @@ fn line_count(text: &[u8]) -> Option<u32>
     ensures value { result ≡ texts.number_of 100000 text.now }
     ensures most { IfSome result (λ lines. lines ≤ 100000) }
 {
-    match number_of(text, MOST_LINES) {
-        Ok(number) => Some(number as u32),
-        Err(_) => None,
+    match text {
+        [digit] => digit_value(*digit),
+        _ => match number_of(text, MOST_LINES) {
+            Ok(number) => Some(number as u32),
+            Err(_) => None,
+        },
+    }
+}
+
+// The number that one digit spells.
+fn digit_value(digit: u8) -> Option<u32>
+    ensures value { result ≡ texts.number_of 100000 (digit ∷ []) }
+    ensures most { IfSome result (λ value. value ≤ 9) }
+{
+    if digit.is_ascii_digit() {
+        Some(u32::from(digit - b'0'))
+    } else {
+        None
     }
 }
 
@@ -170,6 +185,51 @@ fn halves_of(text: &[u8]) -> Option<(&[u8], &[u8])>
         Some(at) => Some((&text[..at], &text[at + 1..])),
         None => None,
     }
+}
+
+// The same. The space is looked for from the end, since what follows a path is short.
+#[tactic(auto, using(crate::proofs::WordLaws::no_space))]
+fn operand_halves(text: &[u8]) -> Option<(&[u8], &[u8])>
+    ensures halves { option_map halves_view result ≡ model.halves_of text.now }
+    ensures front { IfSome result (λ halves. position model.is_space halves.0.now ≡ None) }
+{
+    match space_from_end(text) {
+        Some(at) => Some((&text[..at], &text[at + 1..])),
+        None => None,
+    }
+}
+
+// Where the first space stands, which is mostly the last.
+fn space_from_end(text: &[u8]) -> Option<usize>
+    ensures place { result ≡ position model.is_space text.now }
+    ensures inside { IfSome result (λ at. at < length text.now) }
+{
+    match last_space(text) {
+        Some(at) => {
+            if text[..at].contains(&b' ') {
+                first_space(text)
+            } else {
+                Some(at)
+            }
+        }
+        None => None,
+    }
+}
+
+// Where the last space stands.
+fn last_space(text: &[u8]) -> Option<usize>
+    ensures there { IfSome result (λ at. model.is_space (slice_index text.now at) ≡ true) }
+    ensures inside { IfSome result (λ at. at < length text.now) }
+    ensures none { IfNone result (position model.is_space text.now ≡ None) }
+{
+    let mut end = text.len();
+    'looking: while 0 < end {
+        end -= 1;
+        if text[end] == b' ' {
+            return Some(end);
+        }
+    }
+    None
 }
 
 // Where the first space stands.

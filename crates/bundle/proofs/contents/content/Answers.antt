@@ -1,5 +1,5 @@
 use Rattle.std.proofs.Common.{arith, refl}
-use Rattle.kn_text.specs.Lines.{lines_begun}
+use Rattle.bundle.specs.Lines.{lines_begun}
 use Rattle.bundle.specs.Contents.{Directory, made_of}
 use Rattle.bundle.proofs.MadeLaws.{user-whole}
 use Rattle.bundle.proofs.contents.content.Goals as goal

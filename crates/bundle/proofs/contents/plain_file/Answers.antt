@@ -1,4 +1,4 @@
-use Rattle.kn_text.specs.Lines.{lines_begun}
+use Rattle.bundle.specs.Lines.{lines_begun}
 use Rattle.bundle.specs.Parts.{part_of}
 use Rattle.bundle.proofs.MadeLaws.{file-whole, file-broken}
 use Rattle.bundle.proofs.contents.plain_file.Goals as goal

@@ -1,4 +1,4 @@
-use Rattle.kn_text.specs.Lines.{lines_begun}
+use Rattle.bundle.specs.Lines.{lines_begun}
 use Rattle.bundle.specs.Parts.{part_of}
 use Rattle.bundle.specs.declared.said.Form.TheVariants.{Asm}
 use Rattle.bundle.proofs.MadeLaws.{ok-as, err-as, source-whole, source-refused, source-broken}

@@ -1,5 +1,5 @@
 use Rattle.std.proofs.Common.{◌≡◌, ◌+◌, ◌-◌, ◌≤◌, [], Some, List, ℕ}
-use Rattle.kn_text.specs.Lines.{pending, lines_begun}
+use Rattle.bundle.specs.Lines.{pending, lines_begun}
 use Rattle.bundle.specs.Parts.{behind, part_of}
 use Rattle.bundle.proofs.parts.read_part.Given as goal
 

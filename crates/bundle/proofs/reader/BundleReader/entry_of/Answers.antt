@@ -1,5 +1,5 @@
 use Rattle.std.proofs.Common.{◌-◌, ap, ◌∙◌, arith}
-use Rattle.kn_text.specs.Lines.{lines_begun}
+use Rattle.bundle.specs.Lines.{lines_begun}
 use Rattle.bundle.specs.EntryLines.{makes_directory}
 use Rattle.bundle.specs.Views.{place_of, what_view}
 use Rattle.bundle.specs.Paths.{with_path}
