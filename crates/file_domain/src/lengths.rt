@@ -33,9 +33,9 @@ fn set_length<T: Store>(store: &mut T, file: u32, inode: Inode, length: u32) -> 
     }
 }
 
-/// Cuts a file to a length in bytes, or makes it longer with zeros behind its bytes, for which no page is taken. Pages past the
-/// new end are given back. (POSIX.1 ftruncate(2), narrowed: a file has at most 4,194,304 bytes.) EFBIG comes where the length is
-/// greater, and else ENOSPC where the state with the file of that length has no room; nothing has changed then.
+/// Cuts a file to a length in bytes, or makes it longer with zeros behind its bytes. No page past the new end is left. (POSIX.1
+/// ftruncate(2), narrowed: a file has at most 4,194,304 bytes.) EFBIG comes where the length is greater, and else ENOSPC where the
+/// state with the file of that length has no room; nothing has changed then.
 pub fn truncate<T: Store>(store: &mut T, file: u32, length: u32) -> Result<(), Errno>
     requires good { FilesGood (kernel_of (T.memory store.old)) }
     requires number { file < inode_count }
