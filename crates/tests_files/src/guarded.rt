@@ -10,7 +10,7 @@ ghost use Rattle.space_bank.specs.Bank.{BankGood};
 ghost use Rattle.file_trees.specs.Good.{FilesGood};
 ghost use Rattle.file_domain.specs.Good.{IsFileAt};
 
-use file_domain::{read_at, write_at};
+use file_domain::{read_at, truncate, write_at};
 use file_tables::{InodeKind, inode_of, new_inode};
 use first_machine::first_machine;
 use kernel_tables::first_bank_page;
@@ -107,6 +107,17 @@ pub fn write<T: Store>(store: &mut T, file: u32, at: u32, from: &[u8]) -> Result
         return Err(Errno::Ebadf);
     }
     put(store, file, at, from)
+}
+
+/// Gives a file another length by `truncate`. EBADF where no file is there.
+pub fn cut<T: Store>(store: &mut T, file: u32, length: u32) -> Result<(), Errno>
+    requires good { FilesGood (kernel_of (T.memory store.old)) }
+    ensures good { FilesGood (kernel_of (T.memory store.new)) }
+{
+    if !is_file(store, file) {
+        return Err(Errno::Ebadf);
+    }
+    truncate(store, file, length)
 }
 
 /// Reads bytes of a file by `read_at`. EBADF where no file is there.

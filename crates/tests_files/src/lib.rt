@@ -2,7 +2,15 @@
 //! at the store, so that tests and measurements may make them in any order.
 #![tactic(auto)]
 
+#[cfg(test)]
+mod cuts;
+pub mod directories;
+pub mod dropping;
+#[cfg(test)]
+mod drops;
 pub mod guarded;
+#[cfg(test)]
+mod names;
 #[cfg(test)]
 mod pieces;
 #[cfg(test)]

@@ -5,7 +5,7 @@ ghost use Rattle.kn_base.specs.Memory.{Memory};
 ghost use Rattle.kernel_tables.specs.Kernel.{Kernel, kernel_of};
 ghost use Rattle.file_trees.specs.Good.{FilesGood};
 
-use crate::guarded::{Pages, length_of, pages_of, read, write};
+use crate::guarded::{cut, length_of, pages_of, read, write};
 use crate::plain::{self, Plain, next, part, promised_for};
 use crate::room::{machine, new_file};
 use kn_base::Store;
@@ -60,6 +60,31 @@ fn write_one<T: Store>(
     }
 }
 
+// Gives a file another length, or finds that there is no room.
+fn cut_one<T: Store>(
+    rt: &impl Abort,
+    store: &mut T,
+    file: u32,
+    plain: &mut Plain,
+    others: usize,
+    length: u32,
+) -> Result<(), AllocError>
+    requires good { FilesGood (kernel_of (T.memory store.old)) }
+    ensures good { FilesGood (kernel_of (T.memory store.new)) }
+{
+    match cut(store, file, length) {
+        Ok(()) => {
+            assert!(rt; fits(others, length as usize));
+            plain::resize(plain, length as usize)
+        }
+        Err(errno) => {
+            assert!(rt; !fits(others, length as usize));
+            assert_eq!(rt; errno, Errno::Enospc);
+            Ok(())
+        }
+    }
+}
+
 // Reads so many bytes of a file.
 fn read_one<T: Store>(rt: &impl Abort, store: &T, file: u32, plain: &Plain, at: u32, size: usize)
     requires good { FilesGood (kernel_of (T.memory store.now)) }
@@ -84,14 +109,17 @@ fn act<T: Store>(
     requires good { FilesGood (kernel_of (T.memory store.old)) }
     ensures good { FilesGood (kernel_of (T.memory store.new)) }
 {
-    if next(random, 2) == 0 {
-        write_one(rt, store, file, plain, others, random)
-    } else {
-        let at = next(random, 140_000);
-        let size = next(random, 8192) as usize;
-        read_one(rt, store, file, plain, at, size);
-        Ok(())
+    let choice = next(random, 8);
+    if choice < 4 {
+        return write_one(rt, store, file, plain, others, random);
     }
+    let at = next(random, 140_000);
+    if choice == 4 {
+        return cut_one(rt, store, file, plain, others, at);
+    }
+    let size = next(random, 8192) as usize;
+    read_one(rt, store, file, plain, at, size);
+    Ok(())
 }
 
 // As many pages are promised and taken as the plain lists say.
