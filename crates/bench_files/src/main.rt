@@ -1,8 +1,10 @@
-//! Reads and writes pieces of a file so many times, to be timed from outside: `bench_files read 1000000` reads 4,096 bytes across the
-//! end of a page in each round, `bench_files write 1000000` writes as many there. The answer is a sum of what was read, or how many
-//! rounds went well. Without words it makes a thousand rounds of reading.
+//! Reads and writes pieces of a file, and looks for names, so many times, to be timed from outside: `bench_files read 1000000` reads
+//! 4,096 bytes across the end of a page in each round, `bench_files write 1000000` writes as many there, and `bench_files names 1000`
+//! looks for each of 1,024 names of a full directory in each round. The answer is a sum of what was read, or how many rounds went well
+//! or names were there. Without words it makes a thousand rounds of reading.
 #![tactic(auto)]
 
+mod names;
 mod rounds;
 
 use std::{env, io};
@@ -19,6 +21,7 @@ fn number_of(word: Option<String>) -> u32 {
 enum Work {
     Read,
     Write,
+    Names,
 }
 
 fn main(rt: HostRuntime) -> io::Result<()> {
@@ -28,6 +31,8 @@ fn main(rt: HostRuntime) -> io::Result<()> {
         Some(word) => {
             if word.as_str() == "write" {
                 Work::Write
+            } else if word.as_str() == "names" {
+                Work::Names
             } else {
                 Work::Read
             }
@@ -41,6 +46,7 @@ fn main(rt: HostRuntime) -> io::Result<()> {
     let answer = match work {
         Work::Read => rounds::read(&mut store, count),
         Work::Write => rounds::write(&mut store, count),
+        Work::Names => names::find_all(&mut store, count),
     };
     println!(rt; "{answer}")?;
     Ok(())

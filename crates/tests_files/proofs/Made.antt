@@ -1,8 +1,7 @@
 -- What calls on files ask holds of the first machine, and of one with a file or directory more.
-use Rattle.std.proofs.Common.{◌≡◌, ◌≢◌, ℕ, ◌+◌, ◌<◌, Option, Some, None, length, slice_set, refl, sym, ap, subst, ◌∙◌, arith}
+use Rattle.std.proofs.Common.{◌≡◌, ◌≢◌, ℕ, ◌<◌, Some, None, length, slice_set, refl, sym, ap, subst, ◌∙◌, arith}
 use Rattle.std.specs.Prelude.{option_map}
 use Rattle.std.proofs.lemmas.List.{length-set}
-use Rattle.kernel_tables.specs.declared.inode.Inode.{Inode}
 use Rattle.kernel_tables.specs.declared.inode.InodeKind.{InodeKind}
 use Rattle.kernel_tables.specs.declared.inode.InodeKind.TheVariants as kind
 use Rattle.kernel_tables.specs.declared.row.Row.TheVariants.{Used}
@@ -11,18 +10,16 @@ use Rattle.file_tables.specs.Numbers.{TakesInode, fresh_inode}
 use Rattle.file_tables.specs.Roots.{named_by}
 use Rattle.file_tables.specs.Rows.{InodesGood}
 use Rattle.unix_model.specs.Calls.{call_of}
-use Rattle.unix_model.specs.Files as model
 use Rattle.unix_model.specs.Files.{inode_pages}
 use Rattle.unix_model.specs.Room.{promised}
 use Rattle.unix_model.specs.Tables.{at}
 use Rattle.unix_model.proofs.RoomLaws.{promised-inode}
 use Rattle.kernel_machine.specs.Contents.{file_in, places_in}
 use Rattle.kernel_machine.specs.Bounds.{Accounted}
-use Rattle.kernel_machine.specs.Good.{Good}
-use Rattle.kernel_machine.specs.Loose.{StandingBut, Nothing}
+use Rattle.kernel_machine.specs.Loose.{Nothing}
 use Rattle.kernel_machine.specs.Machine.{KernelMachine, machine_of, inodes_of, held}
 use Rattle.kernel_machine.specs.Standing.{Standing}
-use Rattle.kernel_machine.specs.View.{view, inode_in, inodes_in, descriptions_in, files_in}
+use Rattle.kernel_machine.specs.View.{view, inode_in, inodes_in, descriptions_in}
 use Rattle.kernel_machine.proofs.GoodBounds.{good_is_accounted}
 use Rattle.kernel_machine.proofs.LooseLaws.{nothing_loose}
 use Rattle.kernel_machine.proofs.RootStands.{standing_with_new_inode}

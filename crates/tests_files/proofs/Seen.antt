@@ -1,6 +1,6 @@
 -- Directories, and what may have a name, in the flat state.
-use Rattle.std.proofs.Common.{◌≡◌, ◌≢◌, ℕ, true, Some, List, length, refl, ap, ◌∙◌, arith}
-use Rattle.std.specs.Prelude.{Bool, option_map, codes}
+use Rattle.std.proofs.Common.{◌≡◌, ℕ, true, Some, refl, ap, ◌∙◌}
+use Rattle.std.specs.Prelude.{option_map}
 use Rattle.kernel_tables.specs.declared.inode.Inode.{Inode}
 use Rattle.kernel_tables.specs.declared.inode.InodeKind.{InodeKind}
 use Rattle.kernel_tables.specs.declared.inode.InodeKind.TheVariants as kind

@@ -7,10 +7,9 @@ use Rattle.kernel_tables.specs.declared.inode.Inode.{Inode}
 use Rattle.kernel_tables.specs.declared.inode.InodeKind.{InodeKind}
 use Rattle.kernel_tables.specs.declared.inode.InodeKind.TheVariants as kind
 use Rattle.kernel_tables.specs.declared.row.Row.{Row}
-use Rattle.kernel_tables.specs.declared.row.Row.TheVariants.{Free, Used, Unspelled}
+use Rattle.kernel_tables.specs.declared.row.Row.TheVariants.{Free, Used}
 use Rattle.kernel_tables.specs.declared.description.Description.{Description}
 use Rattle.kernel_tables.specs.Kernel.{Kernel, inode_at, description_at}
-use Rattle.unix_model.specs.Files as model
 use Rattle.unix_model.specs.Files.{description_names, entry_names, links, places_of}
 use Rattle.unix_model.specs.Tables.{at, count_below, sum_below}
 use Rattle.kernel_machine.specs.Contents.{places_in}

@@ -72,7 +72,7 @@ fn are_name_bytes(name: &[u8]) -> bool
     true
 }
 
-// Whether bytes are a name of more than two bytes, or of one or two of which the first is no dot.
+// Whether bytes are a name that may be given here: one of at most two bytes doesn't begin with a dot.
 fn is_name(name: &[u8]) -> bool
     ensures { IsTrue result → IsName name.now }
 {
@@ -103,7 +103,8 @@ pub fn numbered(number: u32) -> [u8; 5] {
     ]
 }
 
-/// Adds a name by `add_name`. ENOTDIR where no directory is there, and EINVAL where the name is none or the inode may have none.
+/// Adds a name by `add_name`. ENOTDIR where no directory is there, and EINVAL where the name is none or a dot with at most one byte
+/// behind it, or where no file or directory has the inode's number.
 pub fn add<T: Store>(store: &mut T, dir: u32, name: &[u8], inode: u32) -> Result<(), Errno>
     requires good { FilesGood (kernel_of (T.memory store.old)) }
     ensures good { FilesGood (kernel_of (T.memory store.new)) }
@@ -128,8 +129,7 @@ pub fn remove<T: Store>(store: &mut T, dir: u32, name: &[u8]) -> Result<u32, Err
     remove_name(store, dir, name)
 }
 
-/// Gives a name another inode by `replace_name`. ENOTDIR where no directory is there, and EINVAL where the name is none or the
-/// inode may have none.
+/// Gives a name another inode by `replace_name`. ENOTDIR and EINVAL are as in `add`.
 pub fn replace<T: Store>(store: &mut T, dir: u32, name: &[u8], inode: u32) -> Result<u32, Errno>
     requires good { FilesGood (kernel_of (T.memory store.old)) }
     ensures good { FilesGood (kernel_of (T.memory store.new)) }

@@ -1,4 +1,4 @@
-use Rattle.std.proofs.Common.{ℕ, length}
+use Rattle.std.proofs.Common.{length}
 use Rattle.kernel_tables.specs.Kernel.{kernel_of}
 use Rattle.kernel_machine.specs.Machine.{machine_of}
 use Rattle.kernel_machine.specs.View.{stored, view}
