@@ -37,7 +37,8 @@ use Rattle.file_trees.specs.Good.{FilesGood}
 use Rattle.file_domain.proofs.Alone.{ring_once}
 use Rattle.file_domain.proofs.Keeping.{accounted_still}
 use Rattle.file_domain.proofs.Released.{state_left}
-use Rattle.file_domain.proofs.Rows.{promising, promise_unseen, promise_stands}
+use Rattle.file_trees.proofs.Promising.{promising, promise_unseen}
+use Rattle.file_domain.proofs.Rows.{promise_stands}
 use Rattle.file_domain.proofs.Unnamed.{is_dropped}
 
 -- the tables in which a number is free

@@ -1,5 +1,5 @@
 -- A file gets longer: its promise and its row are written.
-use Rattle.std.proofs.Common.{◌≡◌, ℕ, zero, suc, ◌+◌, ◌-◌, ◌<◌, ◌≤◌, true, Some, List, length, refl, ap, sym, subst, ◌∙◌, arith}
+use Rattle.std.proofs.Common.{◌≡◌, ℕ, ◌+◌, ◌-◌, ◌<◌, ◌≤◌, true, Some, List, length, refl, ap, sym, subst, ◌∙◌, arith}
 use Rattle.std.proofs.lemmas.Bool.{le-leb, lt-leb}
 use Rattle.kernel_tables.specs.declared.inode.Inode.{Inode}
 use Rattle.kernel_tables.specs.declared.inode.InodeKind.TheVariants as kind
@@ -18,7 +18,7 @@ use Rattle.kernel_machine.specs.Contents.{file_in}
 use Rattle.kernel_machine.specs.Machine.{machine_of, inodes_of, descriptions_of}
 use Rattle.kernel_machine.specs.Standing.{Standing, page_owners}
 use Rattle.kernel_machine.specs.Trees.{IsRootOf}
-use Rattle.kernel_machine.specs.View.{view, stored, file_memory, memory_in}
+use Rattle.kernel_machine.specs.View.{view, stored}
 use Rattle.kernel_machine.proofs.MachineLaws.{inode_written}
 use Rattle.kernel_machine.proofs.PagesHeld.{file-long}
 use Rattle.file_trees.specs.FileMemory.{IsFileMemory}
@@ -26,18 +26,13 @@ use Rattle.file_trees.specs.Trees.{tree_memory}
 use Rattle.file_trees.proofs.Contents.{WholeTree}
 use Rattle.file_trees.proofs.FileMemory.{file_grown}
 use Rattle.file_trees.proofs.FileTrees.{memory_of_root, tree_grown}
+use Rattle.file_trees.proofs.Promising.{promising, promise_unseen, same_tree}
 use Rattle.file_domain.specs.Effects.{ChangesFile, with_file, Resizes, NoRoom}
 use Rattle.file_trees.specs.Good.{FilesGood}
 use Rattle.file_domain.specs.Good.{IsFileAt}
 use Rattle.file_domain.proofs.Keeping.{accounted_file, promised_file}
-use Rattle.file_domain.proofs.Rows.{promising, with_row, promise_unseen, promise_stands, row_there, row_seen, row_stands}
+use Rattle.file_domain.proofs.Rows.{with_row, promise_stands, row_there, row_seen, row_stands}
 use Rattle.file_domain.proofs.Seen.{seen_file, file_root}
-
--- promised pages are no part of a tree
-pub same_tree : (kernel : Kernel) (pages root : ℕ) → tree_memory (promising kernel pages) root ≡ tree_memory kernel root
-unfolding file_memory memory_in machine_of
-same_tree kernel pages zero = refl
-same_tree kernel pages (suc root) = refl
 
 -- the memory of the tree of a file
 pub memory_of_file : (kernel : Kernel) (number : ℕ) (inode : Inode) → Standing kernel → IsFileAt kernel number inode → WholeTree (tree_memory kernel inode.root)

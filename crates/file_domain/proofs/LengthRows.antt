@@ -28,14 +28,14 @@ use Rattle.file_trees.proofs.Contents.{WholeTree}
 use Rattle.file_trees.proofs.FileTrees.{memory_to_tree, there_found}
 use Rattle.file_trees.proofs.FileMemory.{memory_empty}
 use Rattle.file_trees.proofs.FileTrees.{memory_absent}
+use Rattle.file_trees.proofs.Promising.{promising, promise_unseen, same_tree}
 use Rattle.file_domain.specs.Effects.{with_file, Resizes}
 use Rattle.file_trees.specs.Good.{FilesGood}
 use Rattle.file_domain.specs.Good.{IsFileAt}
 use Rattle.file_domain.proofs.CutMemory.{shorter}
-use Rattle.file_domain.proofs.Growth.{same_tree}
 use Rattle.file_domain.proofs.Keeping.{accounted_still, promised_file}
 use Rattle.file_domain.proofs.Parts.{has}
-use Rattle.file_domain.proofs.Rows.{promising, with_row, promise_unseen, promise_stands, row_there, row_all, row_seen, row_stands}
+use Rattle.file_domain.proofs.Rows.{with_row, promise_stands, row_there, row_all, row_seen, row_stands}
 use Rattle.file_domain.proofs.Seen.{seen_file, file_root}
 
 -- what is promised for a file is promised

@@ -39,6 +39,7 @@ use Rattle.kernel_machine.proofs.SpacesStand.{memory-kept}
 use Rattle.file_trees.specs.Trees.{tree_memory}
 use Rattle.file_trees.proofs.Contents.{WholeTree}
 use Rattle.file_trees.proofs.Pages.{page_absent, page_none, zero_long}
+use Rattle.file_trees.proofs.Promising.{promising, promise_unseen}
 use Rattle.file_domain.specs.Cutting.{MapsNoneBelow}
 use Rattle.file_domain.specs.Effects.{with_file, Resizes}
 use Rattle.file_trees.specs.Good.{FilesGood}
@@ -48,7 +49,7 @@ use Rattle.file_domain.proofs.Keeping.{accounted_still}
 use Rattle.file_domain.proofs.LengthRows.{promised_length}
 use Rattle.file_domain.proofs.Parts.{has}
 use Rattle.file_domain.proofs.Puts.{has-tree}
-use Rattle.file_domain.proofs.Rows.{promising, with_row, promise_unseen, promise_stands, row_there, row_all, row_seen}
+use Rattle.file_domain.proofs.Rows.{with_row, promise_stands, row_there, row_all, row_seen}
 use Rattle.file_domain.proofs.Seen.{right_row, file_row}
 use Rattle.file_trees.proofs.Views.{bytes-apart, state-now}
 
