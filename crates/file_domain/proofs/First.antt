@@ -38,7 +38,7 @@ use Rattle.kernel_machine.proofs.AddStands.{standing_with_space}
 use Rattle.kernel_machine.proofs.MachineLaws.{inode_written}
 use Rattle.kernel_machine.proofs.PagesHeld.{file-long}
 use Rattle.file_trees.specs.FileMemory.{IsFileMemory}
-use Rattle.file_trees.specs.Pieces.{PutsInTree, MayBeWritten}
+use Rattle.file_trees.specs.Pieces.{PutsInTree}
 use Rattle.file_trees.specs.Trees.{tree_memory}
 use Rattle.file_trees.proofs.Contents.{WholeTree}
 use Rattle.file_trees.proofs.FileMemory.{memory_empty}
@@ -77,9 +77,6 @@ module _ (k0 k1 : Kernel) (number root : ℕ) (inode : Inode) (good : FilesGood 
 
   pub empty_map : (page : ℕ) → map_of (forest_of k1).keys root page ≡ None
   empty_map page = ap (λ (map : ℕ → Option Mapping). map page) added.here
-
-  pub may1 : MayBeWritten k1 root
-  may1 page mapping e = let no : None ≡ Some mapping = sym (empty_map page) ∙ e in cc
 
   -- nothing is in the new tree
   pub empty : tree_memory k1 root ≡ nothing
@@ -168,7 +165,7 @@ module _ (k0 k1 : Kernel) (number root : ℕ) (inode : Inode) (good : FilesGood 
     unfolding machine_of
     state_now =
         inode_written k2 k3 number (Used row) (let rows_all = all2 in omega arith) refl
-        ∙ ap (λ (m : KernelMachine). let n : KernelMachine = record m { inodes = with_at m.inodes number (Some row) } in n) (state-now k0 k2 rest02 rows02 apart02)
+        ∙ ap (λ (m : KernelMachine). let n : KernelMachine = record m { inodes = with_at m.inodes number (Some row) } in n) (state-now k0 k2 rest02 rows02)
 
     there3 : IsFileAt k3 number row
     there3 = row_there k2 number inode row all2 below file2 file.kind

@@ -10,10 +10,10 @@ pub mod Parts
 pub mod CutMemory
 pub mod TreeChanges
 pub mod LengthRows
+pub mod Unseen
 pub mod Rootless
 pub mod TreeCuts
 pub mod Truncating
-pub mod Unseen
 pub mod PagesGiven
 pub mod Released
 pub mod Unnamed

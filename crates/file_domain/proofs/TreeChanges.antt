@@ -90,7 +90,7 @@ module _ (k0 k1 : Kernel) (number : ℕ) (inode : Inode) (memory : Memory) (good
       }
   unfolding machine_of
   state_now =
-      state-now k0 k1 leaves.rest leaves.rows_now leaves.apart_now
+      state-now k0 k1 leaves.rest leaves.rows_now
       ∙ ap (λ table. let m : KernelMachine = record (machine_of k0) { forest = (machine_of k1).forest; page_bytes = (machine_of k1).page_bytes; page_owner = (machine_of k1).page_owner; inodes = table; words = record (machine_of k1).words { size = k0.machine.size; quantum = k0.machine.quantum; position = k0.machine.position; next_pid = k0.machine.next_pid } } in m)
       (sym (with_at-same (inodes_of k0) number (Some inode) (there_file k0 number inode file)))
 
