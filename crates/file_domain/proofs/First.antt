@@ -16,7 +16,6 @@ use Rattle.forest.specs.Forest.{IsSpace}
 use Rattle.forest.specs.Objects.{OfFile}
 use Rattle.forest.specs.Walks.{Mapping, map_of}
 use Rattle.kernel_forest.proofs.GivingNodes.{unreleased}
-use Rattle.kernel_forest.specs.Apart.{KeepsApart}
 use Rattle.kernel_forest.specs.Releases.{KeepsUnreleased}
 use Rattle.kernel_forest.specs.Trees.{forest_of}
 use Rattle.seg_tree.specs.Promises.{Adds}
@@ -51,9 +50,8 @@ use Rattle.file_domain.specs.Effects.{ChangesFile, with_file, PutsAt}
 use Rattle.file_trees.specs.Good.{FilesGood}
 use Rattle.file_domain.specs.Good.{IsFileAt}
 use Rattle.file_domain.proofs.Keeping.{accounted_file, same_promise}
-use Rattle.file_domain.proofs.Puts.{has-tree}
 use Rattle.file_domain.proofs.Rows.{with_row, row_there, seen_row}
-use Rattle.file_domain.proofs.Seen.{seen_file}
+use Rattle.file_domain.proofs.Seen.{has-tree, seen_file}
 
 -- no tree has no pages
 no_pages : (kernel : Kernel) (root : ℕ) → root ≡ 0 → tree_memory kernel root ≡ nothing
@@ -109,9 +107,6 @@ module _ (k0 k1 : Kernel) (number root : ℕ) (inode : Inode) (good : FilesGood 
 
     rows02 : KeepsRows k0 k2
     rows02 = λ mine apart. put.leaves.rows_now mine apart ∙ adds.rows_now mine apart
-
-    apart02 : KeepsApart k0 k2
-    apart02 = put.leaves.apart_now ∙ adds.apart_now
 
     inodes2 : k2.inodes ≡ k0.inodes
     inodes2 = ap (λ (k : Kernel). k.inodes) rest02

@@ -43,9 +43,8 @@ use Rattle.file_domain.proofs.CutMemory.{shorter}
 use Rattle.file_domain.proofs.Keeping.{accounted_still}
 use Rattle.file_domain.proofs.LengthRows.{promised_length}
 use Rattle.file_domain.proofs.Parts.{has}
-use Rattle.file_domain.proofs.Puts.{has-tree}
 use Rattle.file_domain.proofs.Rows.{with_row, promise_stands, row_there, row_all, row_seen}
-use Rattle.file_domain.proofs.Seen.{right_row, file_row}
+use Rattle.file_domain.proofs.Seen.{has-tree, right_row, file_row}
 use Rattle.file_domain.proofs.Unseen.{drop_unseen}
 use Rattle.file_trees.proofs.Views.{state-now}
 
