@@ -17,5 +17,5 @@ pub mod Truncating
 pub mod PagesGiven
 pub mod Released
 pub mod Unnamed
-pub mod Gone
 pub mod Alone
+pub mod Gone

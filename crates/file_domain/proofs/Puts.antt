@@ -2,7 +2,6 @@
 use Rattle.std.proofs.Common.{◌≢◌, ℕ, ◌+◌, ◌/◌, ◌%◌, true, ◌<◌, ◌≤◌, Some, List, length, refl, ap, ◌∙◌}
 use Rattle.kn_base.specs.Rows.{overwritten}
 use Rattle.kernel_tables.specs.declared.inode.Inode.{Inode}
-use Rattle.kernel_tables.specs.declared.inode.InodeKind.TheVariants as kind
 use Rattle.kernel_tables.specs.Kernel.{Kernel}
 use Rattle.space_bank.specs.Bank.{BankGood}
 use Rattle.forest.specs.Calls.{IsOwn}
