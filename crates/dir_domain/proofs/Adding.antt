@@ -1,5 +1,5 @@
 -- A name is added: the tests of the line, the promise, and the places.
-use Rattle.std.proofs.Common.{◌≡◌, ℕ, zero, suc, ◌+◌, ◌*◌, ◌/◌, ◌<◌, true, false, Option, Some, None, List, [], ◌∷◌, ◌++◌, length, set, refl, ap, ap₂, sym, subst, ◌∙◌, arith}
+use Rattle.std.proofs.Common.{◌≡◌, ℕ, ◌+◌, ◌*◌, ◌/◌, ◌<◌, true, false, Option, Some, None, List, [], ◌∷◌, ◌++◌, length, set, refl, ap, ap₂, sym, subst, ◌∙◌, arith}
 use Rattle.std.specs.Option.{is_some}
 use Rattle.std.specs.Prelude.{Ok, Err}
 use Rattle.kernel_tables.specs.declared.inode.Inode.{Inode}
@@ -16,12 +16,12 @@ use Rattle.kernel_machine.specs.Contents.{file_in, places_in}
 use Rattle.kernel_machine.specs.Laws.{ChangesMemory}
 use Rattle.kernel_machine.specs.Machine.{KernelMachine, machine_of, inodes_of}
 use Rattle.kernel_machine.specs.Standing.{Standing}
-use Rattle.kernel_machine.specs.View.{view, file_memory, memory_in}
+use Rattle.kernel_machine.specs.View.{view, memory_in}
 use Rattle.kernel_machine.proofs.MachineLaws.{spaces_changed}
 use Rattle.kernel_machine.proofs.PagesHeld.{places-long}
-use Rattle.kernel_machine.proofs.ViewLaws.{words_changed}
 use Rattle.file_trees.specs.Trees.{tree_memory}
 use Rattle.file_trees.proofs.FileTrees.{memory_of_root}
+use Rattle.file_trees.proofs.Promising.{promising, promise_unseen, same_tree}
 use Rattle.dir_domain.specs.Changes.{ChangesPlaces, with_tree, places_for, with_name_added}
 use Rattle.dir_domain.specs.Places.{numbered_place}
 use Rattle.dir_domain.specs.Rows.{IsDirectoryRow, places_seen, bytes_stored}
@@ -66,13 +66,13 @@ promised-with unix dir places below is =
     let was = dir-pages (at unix.files.inodes dir) is in
     omega arith
 
--- ---- promised pages are no part of the flat state
+-- ---- more pages are promised, and then places are written
 
-module _ (old : Kernel) (n : ℕ) where
+module _ (old : Kernel) (pages : ℕ) where
   abbrev mid : Kernel
-  mid = record old { machine = record old.machine { promised = n } }
+  mid = promising old pages
 
-  machine-mid : machine_of mid ≡ record (machine_of old) { words = record old.machine { promised = n } }
+  machine-mid : machine_of mid ≡ record (machine_of old) { words = record old.machine { promised = pages } }
   unfolding machine_of
   machine-mid = spaces_changed old mid (λ mine apart. refl) refl refl
 
@@ -90,11 +90,7 @@ module _ (old : Kernel) (n : ℕ) where
     right = is.right;
   }
 
-  view-mid : view (machine_of mid) ≡ view (machine_of old)
-  unfolding machine_of view
-  view-mid = ap view machine-mid ∙ words_changed (machine_of old) old.machine.next_pid old.machine.position n
-
-  words-beside : (m : KernelMachine) (dir : ℕ) (row : Inode) (root size : ℕ) → ChangesMemory (with_tree (record (machine_of old) { words = record old.machine { promised = n } }) dir row root size) m root
+  words-beside : (m : KernelMachine) (dir : ℕ) (row : Inode) (root size : ℕ) → ChangesMemory (with_tree (record (machine_of old) { words = record old.machine { promised = pages } }) dir row root size) m root
       → ChangesMemory (with_tree (machine_of old) dir row root size) m root
   unfolding machine_of memory_in
   words-beside m dir row root size changes = record { rest = changes.rest; memories = changes.memories; buffers = changes.buffers; pipes = changes.pipes }
@@ -107,14 +103,9 @@ module _ (old : Kernel) (n : ℕ) where
     there = changes.there;
     machine = words-beside (machine_of new) dir changes.row changes.root (32 * length places)
         (subst (λ (m : KernelMachine). ChangesMemory (with_tree m dir changes.row changes.root (32 * length places)) (machine_of new) changes.root) machine-mid changes.machine);
-    view = changes.view ∙ ap (λ (u : Unix). with_files u (with_places u.files dir places)) view-mid;
+    view = changes.view ∙ ap (λ (u : Unix). with_files u (with_places u.files dir places)) (promise_unseen old pages);
     standing = changes.standing;
   }
-
-  memory-mid : (root : ℕ) → file_memory (machine_of mid) root ≡ file_memory (machine_of old) root
-  unfolding file_memory memory_in machine_of
-  memory-mid zero = refl
-  memory-mid (suc root) = refl
 
   next-hole : (dir : ℕ) (row : Inode) → Standing old → IsDirectoryRow old dir row
       → numbered_place (file_in (tree_memory old row.root) (32 * (row.length / 32) + 32)) (row.length / 32) ≡ None
@@ -134,7 +125,7 @@ module _ (old : Kernel) (n : ℕ) where
       let was : row.length ≡ 32 * n = omega arith in
       let long = places-long (bytes_stored old row) n in
       let seen = places-are old dir row is in
-      ap (λ m. set (places_in (file_in m (row.length + 32)) ((row.length + 32) / 32)) n place) (memory-mid row.root)
+      ap (λ m. set (places_in (file_in m (row.length + 32)) ((row.length + 32) / 32)) n place) (same_tree old pages row.root)
       ∙ ap₂ (λ s k. set (places_in (file_in (tree_memory old row.root) s) k) n place) size count
       ∙ ap (λ places. set places n place) (places-more (tree_memory old row.root) (tree-whole old row.root standing is.tree) n (next-hole dir row standing is))
       ∙ ap (λ s. set (places_in (file_in (tree_memory old row.root) s) n ++ None ∷ []) n place) (sym was)

@@ -103,9 +103,6 @@ rest_from used (Some was) page e =
     let same : cleared used (4096 - used) was ≡ page = cc in
     (was, refl, ap (λ (p : Page). p.writable) (sym same))
 
-rest_to : (used : ℕ) (found : Option Page) (page : Page) → found ≡ Some page → option_map (cleared used (4096 - used)) found ≡ Some (cleared used (4096 - used) page)
-rest_to used found page e = ap (option_map (cleared used (4096 - used))) e
-
 module _ (memory : Memory) (size : ℕ) (whole : WholeTree memory) where
   -- a length that ends with a page
   pub rest_none : size % 4096 ≡ 0 → without_rest memory size ≡ memory

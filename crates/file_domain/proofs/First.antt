@@ -16,7 +16,6 @@ use Rattle.forest.specs.Forest.{IsSpace}
 use Rattle.forest.specs.Objects.{OfFile}
 use Rattle.forest.specs.Walks.{Mapping, map_of}
 use Rattle.kernel_forest.proofs.GivingNodes.{unreleased}
-use Rattle.kernel_forest.specs.Apart.{KeepsApart}
 use Rattle.kernel_forest.specs.Releases.{KeepsUnreleased}
 use Rattle.kernel_forest.specs.Trees.{forest_of}
 use Rattle.seg_tree.specs.Promises.{Adds}
@@ -38,7 +37,7 @@ use Rattle.kernel_machine.proofs.AddStands.{standing_with_space}
 use Rattle.kernel_machine.proofs.MachineLaws.{inode_written}
 use Rattle.kernel_machine.proofs.PagesHeld.{file-long}
 use Rattle.file_trees.specs.FileMemory.{IsFileMemory}
-use Rattle.file_trees.specs.Pieces.{PutsInTree, MayBeWritten}
+use Rattle.file_trees.specs.Pieces.{PutsInTree}
 use Rattle.file_trees.specs.Trees.{tree_memory}
 use Rattle.file_trees.proofs.Contents.{WholeTree}
 use Rattle.file_trees.proofs.FileMemory.{memory_empty}
@@ -51,9 +50,8 @@ use Rattle.file_domain.specs.Effects.{ChangesFile, with_file, PutsAt}
 use Rattle.file_trees.specs.Good.{FilesGood}
 use Rattle.file_domain.specs.Good.{IsFileAt}
 use Rattle.file_domain.proofs.Keeping.{accounted_file, same_promise}
-use Rattle.file_domain.proofs.Puts.{has-tree}
 use Rattle.file_domain.proofs.Rows.{with_row, row_there, seen_row}
-use Rattle.file_domain.proofs.Seen.{seen_file}
+use Rattle.file_domain.proofs.Seen.{has-tree, seen_file}
 
 -- no tree has no pages
 no_pages : (kernel : Kernel) (root : ℕ) → root ≡ 0 → tree_memory kernel root ≡ nothing
@@ -77,9 +75,6 @@ module _ (k0 k1 : Kernel) (number root : ℕ) (inode : Inode) (good : FilesGood 
 
   pub empty_map : (page : ℕ) → map_of (forest_of k1).keys root page ≡ None
   empty_map page = ap (λ (map : ℕ → Option Mapping). map page) added.here
-
-  pub may1 : MayBeWritten k1 root
-  may1 page mapping e = let no : None ≡ Some mapping = sym (empty_map page) ∙ e in cc
 
   -- nothing is in the new tree
   pub empty : tree_memory k1 root ≡ nothing
@@ -112,9 +107,6 @@ module _ (k0 k1 : Kernel) (number root : ℕ) (inode : Inode) (good : FilesGood 
 
     rows02 : KeepsRows k0 k2
     rows02 = λ mine apart. put.leaves.rows_now mine apart ∙ adds.rows_now mine apart
-
-    apart02 : KeepsApart k0 k2
-    apart02 = put.leaves.apart_now ∙ adds.apart_now
 
     inodes2 : k2.inodes ≡ k0.inodes
     inodes2 = ap (λ (k : Kernel). k.inodes) rest02
@@ -168,7 +160,7 @@ module _ (k0 k1 : Kernel) (number root : ℕ) (inode : Inode) (good : FilesGood 
     unfolding machine_of
     state_now =
         inode_written k2 k3 number (Used row) (let rows_all = all2 in omega arith) refl
-        ∙ ap (λ (m : KernelMachine). let n : KernelMachine = record m { inodes = with_at m.inodes number (Some row) } in n) (state-now k0 k2 rest02 rows02 apart02)
+        ∙ ap (λ (m : KernelMachine). let n : KernelMachine = record m { inodes = with_at m.inodes number (Some row) } in n) (state-now k0 k2 rest02 rows02)
 
     there3 : IsFileAt k3 number row
     there3 = row_there k2 number inode row all2 below file2 file.kind

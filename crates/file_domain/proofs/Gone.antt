@@ -36,8 +36,9 @@ use Rattle.file_domain.specs.Dropping.{DropsInode, GivesBack, IsNamedOnce, IsUnn
 use Rattle.file_trees.specs.Good.{FilesGood}
 use Rattle.file_domain.proofs.Alone.{ring_once}
 use Rattle.file_domain.proofs.Keeping.{accounted_still}
-use Rattle.file_domain.proofs.Released.{state_left}
-use Rattle.file_domain.proofs.Rows.{promising, promise_unseen, promise_stands}
+use Rattle.file_trees.proofs.Views.{state-now}
+use Rattle.file_trees.proofs.Promising.{promising, promise_unseen}
+use Rattle.file_domain.proofs.Rows.{promise_stands}
 use Rattle.file_domain.proofs.Unnamed.{is_dropped}
 
 -- the tables in which a number is free
@@ -148,7 +149,7 @@ module _ (k0 : Kernel) (number : ℕ) (inode : Inode) (good : FilesGood k0) (bel
           }
       unfolding machine_of
       state2 =
-          state_left k1 k2 released.rest released.rows_now
+          state-now k1 k2 released.rest released.rows_now
           ∙ ap (λ (m : KernelMachine). let n : KernelMachine = record m {
             forest = (machine_of k2).forest;
             page_bytes = (machine_of k2).page_bytes;

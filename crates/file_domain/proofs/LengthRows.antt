@@ -26,16 +26,14 @@ use Rattle.file_trees.specs.FileMemory.{IsFileMemory}
 use Rattle.file_trees.specs.Trees.{tree_memory}
 use Rattle.file_trees.proofs.Contents.{WholeTree}
 use Rattle.file_trees.proofs.FileTrees.{memory_to_tree, there_found}
-use Rattle.file_trees.proofs.FileMemory.{memory_empty}
-use Rattle.file_trees.proofs.FileTrees.{memory_absent}
+use Rattle.file_trees.proofs.Promising.{promising, promise_unseen, same_tree}
 use Rattle.file_domain.specs.Effects.{with_file, Resizes}
 use Rattle.file_trees.specs.Good.{FilesGood}
 use Rattle.file_domain.specs.Good.{IsFileAt}
 use Rattle.file_domain.proofs.CutMemory.{shorter}
-use Rattle.file_domain.proofs.Growth.{same_tree}
 use Rattle.file_domain.proofs.Keeping.{accounted_still, promised_file}
 use Rattle.file_domain.proofs.Parts.{has}
-use Rattle.file_domain.proofs.Rows.{promising, with_row, promise_unseen, promise_stands, row_there, row_all, row_seen, row_stands}
+use Rattle.file_domain.proofs.Rows.{with_row, promise_stands, row_there, row_all, row_seen, row_stands}
 use Rattle.file_domain.proofs.Seen.{seen_file, file_root}
 
 -- what is promised for a file is promised
@@ -46,10 +44,6 @@ file_promised kernel number inode good below file =
     let long : pages_of (length (stored (machine_of kernel) inode)) ≡ pages_of inode.length = ap pages_of (file-long (tree_memory kernel inode.root) (file-whole kernel good.accounted inode.root) inode.length) in
     let promises = good.promises in
     omega arith
-
--- a file without a tree has no pages, whatever its length is
-pub rootless_memory : (kernel : Kernel) (root size : ℕ) → root ≡ 0 → IsFileMemory (tree_memory kernel root) size
-rootless_memory kernel root size none = memory_empty (tree_memory kernel root) (λ number. memory_absent kernel root number none) size
 
 -- how much is promised once a file has other bytes
 pub promised_length : (kernel : Kernel) (number size pages : ℕ) (inode : Inode) (bytes : List ℕ) → FilesGood kernel → number < 1024 → IsFileAt kernel number inode

@@ -8,7 +8,6 @@ use Rattle.kernel_tables.specs.declared.entry.Entry.TheVariants.{Free}
 use Rattle.kernel_tables.specs.declared.entry.PageOwner.{PageOwner}
 use Rattle.kernel_tables.specs.declared.entry.PageOwner.TheVariants.{Buffer, Pipe as PipePage}
 use Rattle.kernel_tables.specs.declared.inode.InodeKind.TheVariants as kind
-use Rattle.kernel_tables.specs.declared.machine.Machine.{Machine as Words}
 use Rattle.kernel_tables.specs.Kernel.{Kernel, first_page, memory_page, with_bank_page}
 use Rattle.kernel_tables.specs.Rows.{KeepsRows, entry_at}
 use Rattle.space_bank.specs.Bank.{BankGood, page_given}
@@ -16,54 +15,29 @@ use Rattle.space_bank.specs.Shares.{TakesPageOutOfHand, page_places}
 use Rattle.space_bank.proofs.BankLaws.{page-counted}
 use Rattle.space_bank.proofs.HandLaws.{handed-out, page-in_hand_unnamed}
 use Rattle.file_tables.specs.Roots.{named_by, pipe_key}
-use Rattle.forest.specs.Calls.{DropsSpace}
 use Rattle.forest.specs.Forest.{Forest, IsSpace}
 use Rattle.forest.specs.Walks.{map_of}
 use Rattle.kernel_forest.specs.Releases.{KeepsUnreleased}
-use Rattle.kernel_forest.specs.Trees.{forest_of, TreesGood}
+use Rattle.kernel_forest.specs.Trees.{forest_of}
 use Rattle.domain.proofs.Pages.{forest_paged}
 use Rattle.seg_tree.specs.Promises.{Drops}
 use Rattle.unix_model.specs.Tables.{at, with_at}
 use Rattle.user_copy.specs.SpaceMemory.{memory_by}
 use Rattle.kernel_machine.specs.Held.{AllWhole}
 use Rattle.kernel_machine.specs.Loose.{Tree, Ring, StandingBut, word_of}
-use Rattle.kernel_machine.specs.Machine.{KernelMachine, machine_of}
+use Rattle.kernel_machine.specs.Machine.{machine_of}
 use Rattle.kernel_machine.specs.Standing.{page_owners}
 use Rattle.kernel_machine.specs.View.{memory_in}
 use Rattle.kernel_machine.proofs.DropStands.{standing_with_space_dropped}
 use Rattle.kernel_machine.proofs.LooseLaws.{nothing_loose, ring-word, tree-word}
-use Rattle.kernel_machine.proofs.MachineLaws.{spaces_changed}
 use Rattle.kernel_machine.proofs.OwnerLaws.{none-shares, owned-below, owned-in-bank, owned-inside, owned-no-tree, owners-set}
 use Rattle.kernel_machine.proofs.PageStands.{standing_without_page}
-use Rattle.kernel_machine.proofs.SpacesStand.{memory-kept}
 use Rattle.kernel_machine.proofs.StandingLaws.{same-memory}
 use Rattle.forest.specs.Objects.{OfFile}
 use Rattle.file_domain.specs.Dropping.{IsNamedOnce, Releases}
 use Rattle.file_domain.proofs.PagesGiven.{none_given, tree_pages_given}
-use Rattle.file_domain.proofs.Unseen.{ChangesLoose, loose_unseen}
-use Rattle.file_trees.proofs.Views.{bytes-apart}
-
-words-left : (old new : Kernel) → KeepsUnreleased old new
-    → new.machine ≡ record new.machine { size = old.machine.size; quantum = old.machine.quantum; position = old.machine.position; next_pid = old.machine.next_pid }
-words-left old new rest =
-    ap (λ s. let w : Words = record new.machine { size = s } in w) (ap (λ (k : Kernel). k.machine.size) rest)
-    ∙ ap (λ q. let w : Words = record new.machine { size = old.machine.size; quantum = q } in w) (ap (λ (k : Kernel). k.machine.quantum) rest)
-    ∙ ap (λ p. let w : Words = record new.machine { size = old.machine.size; quantum = old.machine.quantum; position = p } in w) (ap (λ (k : Kernel). k.machine.position) rest)
-    ∙ ap (λ n. let w : Words = record new.machine { size = old.machine.size; quantum = old.machine.quantum; position = old.machine.position; next_pid = n } in w) (ap (λ (k : Kernel). k.machine.next_pid) rest)
-
--- what parts of trees and pages that are given back leave of the machine
-pub state_left : (old new : Kernel) → KeepsUnreleased old new → KeepsRows old new
-    → machine_of new
-    ≡ record (machine_of old) {
-      forest = (machine_of new).forest;
-      page_bytes = (machine_of new).page_bytes;
-      page_owner = (machine_of new).page_owner;
-      words = record (machine_of new).words { size = old.machine.size; quantum = old.machine.quantum; position = old.machine.position; next_pid = old.machine.next_pid };
-    }
-unfolding machine_of
-state_left old new rest rows =
-    spaces_changed old new rows (ap (λ (k : Kernel). k.inodes) rest) (ap (λ (k : Kernel). k.descriptions) rest)
-    ∙ ap (λ w. let m : KernelMachine = record (machine_of old) { forest = forest_of new; page_bytes = memory_page new; page_owner = page_owners new; words = w } in m) (words-left old new rest)
+use Rattle.file_domain.proofs.Unseen.{ChangesLoose, drop_unseen, loose_unseen}
+use Rattle.file_trees.proofs.Views.{state-now}
 
 -- ---- a tree
 
@@ -72,29 +46,12 @@ module _ (old : Kernel) (root : ℕ) (some : root ≢ 0) (loose : StandingBut ol
   tree_loose = subst (StandingBut old) (tree-word kind.File root tt some) loose
 
   module _ (new : Kernel) (drops : Drops old new root) (bank : BankGood new) (whole : AllWhole new.bank) where
-    dropped : TreesGood new (named_by old.inodes) [] × DropsSpace (forest_of old) (forest_of new) root
-    dropped = drops.drops (named_by old.inodes) tree_loose.trees
-
-    memory-beside : (other : ℕ) → Tree root ≢ Tree other → IsSpace (forest_of old) [] other → memory_in (machine_of new) (Some other) ≡ memory_in (machine_of old) (Some other)
-    unfolding machine_of memory_in
-    memory-beside other apart is =
-        let differ : other ≢ root = λ same. apart (ap Tree (sym same)) in
-        memory-kept old new drops.rest bank dropped.0.held.sound drops.keeps.bytes other (dropped.1.others.stay other is differ) (dropped.1.others.maps other is differ)
-
-    tree-changes : ChangesLoose old new (Tree root)
-    tree-changes = record {
-      rest = state_left old new drops.rest drops.rows_now;
-      memories = λ other space tree is. memory-beside other tree is;
-      buffers = λ page owned. bytes-apart old new drops.rest drops.rows_now drops.apart_now page Buffer refl owned;
-      pipes = λ page apart owned. bytes-apart old new drops.rest drops.rows_now drops.apart_now page PipePage refl owned;
-    }
-
     pub tree_released : Releases old new root kind.File
     tree_released = record {
       standing = standing_with_space_dropped old new root OfFile drops bank whole tree_loose;
       rest = drops.rest;
       rows_now = drops.rows_now;
-      seen = loose_unseen old new (Tree root) tree_loose tree-changes;
+      seen = drop_unseen old new root tree_loose drops bank;
       given = record {
         of_tree = λ tree. tree_pages_given old new drops.rest drops.apart_now drops.keeps tree_loose.bank bank;
         of_pipe = λ e. cc;
@@ -122,16 +79,6 @@ no_root kernel root loose = record {
   rows_now = λ mine apart. refl;
   seen = refl;
   given = record { of_tree = λ tree. absurd tree; of_pipe = λ e. cc };
-}
-
--- the tree of a directory is given back like that of a file
-pub of_directory : (old new : Kernel) (root : ℕ) → Releases old new root kind.File → Releases old new root kind.Dir
-of_directory old new root released = record {
-  standing = released.standing;
-  rest = released.rest;
-  rows_now = released.rows_now;
-  seen = released.seen;
-  given = record { of_tree = λ tree. released.given.of_tree tt; of_pipe = λ e. cc };
 }
 
 -- ---- the page of a pipe
@@ -201,7 +148,7 @@ module _ (old : Kernel) (page : ℕ) (real : page ≢ 0) (loose : StandingBut ol
 
     ring-changes : ChangesLoose old new (Ring page)
     ring-changes = record {
-      rest = state_left old new rest-left rows-left;
+      rest = state-now old new rest-left rows-left;
       memories = λ other space tree is. memory-left other is;
       buffers = λ other its. other-bytes other Buffer its (λ same. let no : Some Buffer ≡ Some PipePage = sym its ∙ ap (at (page_owners old)) same ∙ owned in cc);
       pipes = λ other apart its. other-bytes other PipePage its (λ same. apart (ap Ring (sym same)));

@@ -1,6 +1,5 @@
 -- The tree of a file is given up: its row gets a length of which no page is there, and no root, and the tree is released.
-use Rattle.std.proofs.Common.{◌≡◌, ◌≢◌, ℕ, ◌+◌, ◌/◌, ◌%◌, ◌<◌, ◌≤◌, Some, List, [], length, get_or, refl, ap, sym, subst, ◌∙◌, arith}
-use Rattle.kernel_tables.specs.declared.entry.PageOwner.TheVariants.{Buffer, Pipe as PipePage}
+use Rattle.std.proofs.Common.{◌≡◌, ◌≢◌, ℕ, ◌+◌, ◌/◌, ◌%◌, ◌<◌, ◌≤◌, Some, List, length, get_or, refl, ap, sym, subst, ◌∙◌, arith}
 use Rattle.kernel_tables.specs.declared.inode.Inode.{Inode}
 use Rattle.kernel_tables.specs.declared.inode.InodeKind.TheVariants as kind
 use Rattle.kernel_tables.specs.declared.row.Row.{Row}
@@ -8,37 +7,34 @@ use Rattle.kernel_tables.specs.declared.row.Row.TheVariants.{Used}
 use Rattle.kernel_tables.specs.Kernel.{Kernel, memory_page, inode_at, inode_count}
 use Rattle.kernel_tables.specs.Rows.{of_domain, is_fixed}
 use Rattle.space_bank.specs.Bank.{BankGood}
-use Rattle.file_tables.specs.Roots.{named_by, ExchangesRoots}
+use Rattle.file_tables.specs.Roots.{ExchangesRoots}
 use Rattle.file_tables.specs.Rows.{InodesGood, IsInodeAt, IsOfKind}
-use Rattle.forest.specs.Calls.{DropsSpace}
-use Rattle.forest.specs.Objects.{OfFile, OfProcess}
-use Rattle.kernel_forest.specs.Trees.{forest_of, TreesGood}
+use Rattle.forest.specs.Objects.{OfFile}
+use Rattle.kernel_forest.specs.Trees.{forest_of}
 use Rattle.kernel_forest.proofs.RowLaws.{domains_apart, fixed_apart}
 use Rattle.seg_tree.specs.Promises.{Drops}
 use Rattle.unix_model.specs.FileCalls.{resized}
 use Rattle.unix_model.specs.Numbers.{pages_of}
 use Rattle.unix_model.specs.Room.{promised}
-use Rattle.unix_model.specs.Tables.{at, with_at}
-use Rattle.domain.specs.Domains.{domains, domain_at, roots_by}
+use Rattle.unix_model.specs.Tables.{with_at}
+use Rattle.domain.specs.Domains.{domain_at, roots_by}
 use Rattle.kernel_machine.specs.Contents.{file_in}
 use Rattle.kernel_machine.specs.Held.{AllWhole}
-use Rattle.kernel_machine.specs.Laws.{ChangesMemory}
 use Rattle.kernel_machine.specs.Loose.{Nothing, Tree, StandingBut, root_of, word_of}
 use Rattle.kernel_machine.specs.Machine.{KernelMachine, machine_of, inodes_of, descriptions_of}
 use Rattle.kernel_machine.specs.Standing.{Standing, page_owners}
-use Rattle.kernel_machine.specs.Trees.{HasTree, IsRootOf}
-use Rattle.kernel_machine.specs.View.{view, stored, memory_in}
+use Rattle.kernel_machine.specs.Trees.{IsRootOf}
+use Rattle.kernel_machine.specs.View.{view, stored}
 use Rattle.kernel_machine.proofs.DropStands.{standing_with_space_dropped}
-use Rattle.kernel_machine.proofs.LooseLaws.{nothing_loose, not-loose, tree-word}
+use Rattle.kernel_machine.proofs.LooseLaws.{nothing_loose, tree-word}
 use Rattle.kernel_machine.proofs.MachineLaws.{inode_written}
-use Rattle.kernel_machine.proofs.MemoryLaws.{memory_unseen, tree-of}
 use Rattle.kernel_machine.proofs.PageHolders.{file-whole}
 use Rattle.kernel_machine.proofs.PagesHeld.{file-long}
 use Rattle.kernel_machine.proofs.RootStands.{standing_with_root}
-use Rattle.kernel_machine.proofs.SpacesStand.{memory-kept}
 use Rattle.file_trees.specs.Trees.{tree_memory}
 use Rattle.file_trees.proofs.Contents.{WholeTree}
 use Rattle.file_trees.proofs.Pages.{page_absent, page_none, zero_long}
+use Rattle.file_trees.proofs.Promising.{promising, promise_unseen}
 use Rattle.file_domain.specs.Cutting.{MapsNoneBelow}
 use Rattle.file_domain.specs.Effects.{with_file, Resizes}
 use Rattle.file_trees.specs.Good.{FilesGood}
@@ -47,38 +43,10 @@ use Rattle.file_domain.proofs.CutMemory.{shorter}
 use Rattle.file_domain.proofs.Keeping.{accounted_still}
 use Rattle.file_domain.proofs.LengthRows.{promised_length}
 use Rattle.file_domain.proofs.Parts.{has}
-use Rattle.file_domain.proofs.Puts.{has-tree}
-use Rattle.file_domain.proofs.Rows.{promising, with_row, promise_unseen, promise_stands, row_there, row_all, row_seen}
-use Rattle.file_domain.proofs.Seen.{right_row, file_row}
-use Rattle.file_trees.proofs.Views.{bytes-apart, state-now}
-
--- ---- a tree that nobody has is released: nothing of it was seen
-
-module _ (old new : Kernel) (root : ℕ) (standing : StandingBut old (Tree root)) (drops : Drops old new root) (bank : BankGood new) where
-  dropped : TreesGood new (named_by old.inodes) [] × DropsSpace (forest_of old) (forest_of new) root
-  dropped = drops.drops (named_by old.inodes) standing.trees
-
-  no_domain : (held : ℕ) → (at (domains old) held).space ≢ Some root
-  no_domain held has = let both : Some OfFile ≡ Some OfProcess = sym standing.is_loose.taken.1 ∙ (standing.holdings.spaces held root has).1 in cc
-
-  no_inode : (number : ℕ) (inode : Inode) → at (inodes_of old) number ≡ Some inode → HasTree inode.kind → inode.root ≢ 0 → inode.root ≢ root
-  no_inode number inode there tree some =
-      not-loose OfFile root (domains old) (forest_of old) (page_owners old) (inodes_of old) standing.is_loose number inode there tree some
-      (tree-of (forest_of old) (memory_page old) (page_owners old) inode inode.kind (standing.roots.each number inode there) tree some).1
-
-  changes : ChangesMemory (machine_of old) (machine_of new) root
-  unfolding machine_of memory_in at
-  changes = record {
-    rest = state-now old new drops.rest drops.rows_now drops.apart_now;
-    memories = λ other apart is.
-        memory-kept old new drops.rest bank dropped.0.held.sound drops.keeps.bytes other (dropped.1.others.stay other is apart) (dropped.1.others.maps other is apart);
-    buffers = λ page owned. bytes-apart old new drops.rest drops.rows_now drops.apart_now page Buffer refl owned;
-    pipes = λ page owned. bytes-apart old new drops.rest drops.rows_now drops.apart_now page PipePage refl owned;
-  }
-
-  pub drop_unseen : view (machine_of new) ≡ view (machine_of old)
-  unfolding machine_of
-  drop_unseen = memory_unseen (machine_of old) (machine_of new) root standing.holdings standing.roots no_domain no_inode changes
+use Rattle.file_domain.proofs.Rows.{with_row, promise_stands, row_there, row_all, row_seen}
+use Rattle.file_domain.proofs.Seen.{has-tree, right_row, file_row}
+use Rattle.file_domain.proofs.Unseen.{drop_unseen}
+use Rattle.file_trees.proofs.Views.{state-now}
 
 -- ---- the row, and then the tree
 
@@ -167,7 +135,7 @@ module _ (k0 : Kernel) (number size pages : ℕ) (inode : Inode) (good : FilesGo
         }
     unfolding machine_of inodes_of descriptions_of
     state_now =
-        state-now k2 k3 drops.rest drops.rows_now drops.apart_now
+        state-now k2 k3 drops.rest drops.rows_now
         ∙ ap (λ (m : KernelMachine). let n : KernelMachine = record m {
           forest = (machine_of k3).forest;
           page_bytes = (machine_of k3).page_bytes;

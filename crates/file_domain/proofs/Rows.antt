@@ -12,27 +12,19 @@ use Rattle.file_tables.specs.Rows.{InodesGood}
 use Rattle.kernel_forest.specs.Trees.{forest_of}
 use Rattle.unix_model.specs.Files.{Inode as Seen, File, with_inode}
 use Rattle.unix_model.specs.State.{Unix, with_files}
-use Rattle.kernel_machine.specs.Machine.{machine_of, inodes_of, descriptions_of}
+use Rattle.kernel_machine.specs.Machine.{machine_of}
 use Rattle.kernel_machine.specs.Standing.{Standing, page_owners}
 use Rattle.kernel_machine.specs.Trees.{IsRootOf}
-use Rattle.kernel_machine.specs.View.{view, inode_in, inode_by, stored, files_in, processes_in, process_in, memory_in, inodes_in, descriptions_in, file_memory}
-use Rattle.kernel_machine.proofs.MachineLaws.{inode_written}
+use Rattle.kernel_machine.specs.View.{view, inode_in, inode_by, stored, files_in, inodes_in, descriptions_in}
 use Rattle.kernel_machine.proofs.SetLaws.{inode_set}
 use Rattle.kernel_machine.proofs.StandingLaws.{standing_with_words, standing_with_inode}
-use Rattle.file_domain.specs.Effects.{with_file, ChangesFile}
+use Rattle.file_trees.proofs.Promising.{promising}
+use Rattle.file_domain.specs.Effects.{with_file}
 use Rattle.file_domain.specs.Good.{IsFileAt}
 
--- the tables with another number of promised pages, and with another row of an inode
-abbrev pub promising : Kernel → ℕ → Kernel
-promising kernel pages = record kernel { machine = record kernel.machine { promised = pages } }
-
+-- the tables with another row of an inode
 abbrev pub with_row : Kernel → ℕ → Inode → Kernel
 with_row kernel number row = record kernel { inodes = slice_set kernel.inodes number (Used row) }
-
--- promised pages are no part of the flat state
-pub promise_unseen : (kernel : Kernel) (pages : ℕ) → view (machine_of (promising kernel pages)) ≡ view (machine_of kernel)
-unfolding view machine_of processes_in process_in memory_in inodes_in descriptions_in inode_in file_memory inodes_of descriptions_of
-promise_unseen kernel pages = refl
 
 pub promise_stands : (kernel : Kernel) (pages : ℕ) → BankGood (promising kernel pages) → Standing kernel → Standing (promising kernel pages)
 promise_stands kernel pages bank standing = standing_with_words kernel (promising kernel pages) kernel.machine.next_pid kernel.machine.position pages refl bank standing
@@ -63,11 +55,3 @@ module _ (kernel : Kernel) (number : ℕ) (inode row : Inode) (all : length kern
   row_stands same exchanges good root standing =
       standing_with_inode kernel (with_row kernel number row) number inode row (omega arith) file.there refl exchanges good (is_file ∙ sym file.kind) same
       (subst (IsRootOf (forest_of kernel) (memory_page kernel) (page_owners kernel) row) (sym is_file) root) standing
-
-  pub row_changes : row ≡ record inode { length = row.length; root = row.root } → ChangesFile kernel (with_row kernel number row) number inode row
-  unfolding machine_of
-  row_changes same = record {
-    row = same;
-    there = row_there.there;
-    state = inode_written kernel (with_row kernel number row) number (Used row) (omega arith) refl;
-  }

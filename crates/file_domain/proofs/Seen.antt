@@ -15,7 +15,7 @@ use Rattle.unix_model.specs.Tables.{at}
 use Rattle.kernel_forest.specs.Trees.{forest_of}
 use Rattle.kernel_machine.specs.Machine.{machine_of, inodes_of, held}
 use Rattle.kernel_machine.specs.Standing.{Standing, page_owners}
-use Rattle.kernel_machine.specs.Trees.{IsRootOf}
+use Rattle.kernel_machine.specs.Trees.{HasTree, IsRootOf}
 use Rattle.kernel_machine.specs.View.{view, inodes_in, inode_in, inode_by, stored}
 use Rattle.file_trees.specs.Trees.{IsTree}
 use Rattle.file_domain.specs.Good.{IsFileAt, bytes_at}
@@ -41,6 +41,12 @@ pub bytes_are : (kernel : Kernel) (number : ℕ) (inode : Inode) (bytes : List �
 bytes_are kernel number inode bytes file is =
     let both : Some bytes ≡ Some (stored (machine_of kernel) inode) = sym is ∙ ap file_bytes (seen_file kernel number inode file) in
     cc
+
+pub has-tree : (k : InodeKind) → k ≡ kind.File → HasTree k
+has-tree kind.File e = tt
+has-tree kind.Dir e = tt
+has-tree kind.Pipe e = cc
+has-tree kind.Console e = cc
 
 -- its root word is that of a tree, or 0
 pub file_root : (kernel : Kernel) (number : ℕ) (inode : Inode) → Standing kernel → IsFileAt kernel number inode → IsRootOf (forest_of kernel) (memory_page kernel) (page_owners kernel) inode kind.File

@@ -3,17 +3,14 @@ use Rattle.std.proofs.Common.{◌≡◌, ◌≢◌, ℕ, ◌<◌, Some, List, le
 use Rattle.kernel_tables.specs.declared.inode.Inode.{Inode}
 use Rattle.kernel_tables.specs.declared.row.Row.{Row}
 use Rattle.kernel_tables.specs.Kernel.{Kernel, memory_page, inode_at}
-use Rattle.kernel_tables.specs.Rows.{of_domain, is_fixed}
 use Rattle.space_bank.specs.Bank.{BankGood}
 use Rattle.kernel_forest.specs.Trees.{forest_of}
-use Rattle.kernel_forest.proofs.RowLaws.{domains_apart, fixed_apart}
 use Rattle.unix_model.specs.Files.{File, with_inode}
 use Rattle.unix_model.specs.Memory.{Memory, Page}
 use Rattle.unix_model.specs.Room.{promised}
 use Rattle.unix_model.specs.State.{Unix, with_files}
 use Rattle.unix_model.specs.Tables.{at, with_at}
 use Rattle.unix_model.proofs.TableLaws.{with_at-same}
-use Rattle.domain.specs.Domains.{domain_at, roots_by}
 use Rattle.kernel_machine.specs.Contents.{file_in}
 use Rattle.kernel_machine.specs.Held.{AllWhole}
 use Rattle.kernel_machine.specs.Machine.{KernelMachine, machine_of, inodes_of}
@@ -29,17 +26,16 @@ use Rattle.file_trees.specs.Trees.{tree_memory, tree_page}
 use Rattle.file_trees.proofs.Contents.{WholeTree}
 use Rattle.file_trees.proofs.FileTrees.{memory_to_tree}
 use Rattle.file_domain.specs.Cutting.{ChangesTree}
-use Rattle.file_domain.specs.Effects.{with_file}
+use Rattle.file_domain.specs.Effects.{ChangesFile, with_file}
 use Rattle.file_trees.specs.Good.{FilesGood}
 use Rattle.file_domain.specs.Good.{IsFileAt}
 use Rattle.file_domain.proofs.Chains.{changes_more, file_twice}
-use Rattle.file_domain.proofs.Keeping.{accounted_still, same_promise}
-use Rattle.file_domain.proofs.Puts.{has-tree}
+use Rattle.file_domain.proofs.Keeping.{accounted_file, same_promise}
 use Rattle.file_domain.proofs.Rows.{seen_row}
-use Rattle.file_domain.proofs.Seen.{there_file, seen_file}
+use Rattle.file_domain.proofs.Seen.{has-tree, there_file, seen_file}
 use Rattle.file_trees.proofs.Views.{changes_memory, state-now}
 
-module _ (k0 k1 : Kernel) (number : ℕ) (inode : Inode) (memory : Memory) (good : FilesGood k0) (below : number < 1024) (file : IsFileAt k0 number inode) (all : length k0.inodes ≡ 1024)
+module _ (k0 k1 : Kernel) (number : ℕ) (inode : Inode) (memory : Memory) (good : FilesGood k0) (below : number < 1024) (file : IsFileAt k0 number inode)
     (some : inode.root ≢ 0) (leaves : LeavesSpaces k0 k1 inode.root) (here : tree_memory k1 inode.root ≡ memory) (whole_now : WholeTree memory) (is : IsFileMemory memory inode.length)
     (page : ℕ) (found : Page) (there : at memory page ≡ Some found) (bank : BankGood k1) (pages : AllWhole k1.bank) where
   whole : WholeTree (tree_memory k0 inode.root)
@@ -90,19 +86,22 @@ module _ (k0 k1 : Kernel) (number : ℕ) (inode : Inode) (memory : Memory) (good
       }
   unfolding machine_of
   state_now =
-      state-now k0 k1 leaves.rest leaves.rows_now leaves.apart_now
+      state-now k0 k1 leaves.rest leaves.rows_now
       ∙ ap (λ table. let m : KernelMachine = record (machine_of k0) { forest = (machine_of k1).forest; page_bytes = (machine_of k1).page_bytes; page_owner = (machine_of k1).page_owner; inodes = table; words = record (machine_of k1).words { size = k0.machine.size; quantum = k0.machine.quantum; position = k0.machine.position; next_pid = k0.machine.next_pid } } in m)
       (sym (with_at-same (inodes_of k0) number (Some inode) (there_file k0 number inode file)))
 
+  changes_now : ChangesFile k0 k1 number inode inode
+  changes_now = record { row = refl; there = file_now.there; state = state_now }
+
   pub changes_tree : ChangesTree k0 k1 number inode memory
   changes_tree = record {
-    changes = record { row = refl; there = file_now.there; state = state_now };
+    changes = changes_now;
     here = here;
     seen = seen_now;
     promised_same = ap (λ (k : Kernel). k.machine.promised) leaves.rest;
     good = record {
       standing = standing_now;
-      accounted = accounted_still k0 k1 (ap roots_by (leaves.rows_now is_fixed fixed_apart)) (ap domain_at (leaves.rows_now of_domain domains_apart)) (ap length inodes_same ∙ all) standing_now good.accounted;
+      accounted = accounted_file k0 k1 number inode inode below changes_now standing_now good.accounted;
       promises = ap (λ (k : Kernel). k.machine.promised) leaves.rest ∙ good.promises ∙ sym (ap promised seen_now ∙ promises_now);
     };
     file = file_now;

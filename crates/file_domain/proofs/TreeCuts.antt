@@ -1,5 +1,5 @@
 -- The tree of a file is cut where it keeps a page, and the rest of the page where a length ends becomes zero.
-use Rattle.std.proofs.Common.{◌≡◌, ◌≢◌, ℕ, ◌-◌, ◌%◌, ◌<◌, ◌≤◌, length, refl, ap, sym, subst, ◌∙◌}
+use Rattle.std.proofs.Common.{◌≡◌, ◌≢◌, ℕ, ◌-◌, ◌%◌, ◌<◌, ◌≤◌, refl, ap, sym, subst, ◌∙◌}
 use Rattle.kernel_tables.specs.declared.inode.Inode.{Inode}
 use Rattle.kernel_tables.specs.Kernel.{Kernel, memory_page}
 use Rattle.space_bank.specs.Bank.{BankGood}
@@ -29,7 +29,7 @@ use Rattle.file_domain.proofs.Growth.{memory_of_file}
 use Rattle.file_domain.proofs.Seen.{file_root}
 use Rattle.file_domain.proofs.TreeChanges.{changes_tree, changes_tree_more}
 
-module _ (k0 k1 : Kernel) (number size : ℕ) (inode : Inode) (good : FilesGood k0) (below : number < 1024) (file : IsFileAt k0 number inode) (all : length k0.inodes ≡ 1024) (some : inode.root ≢ 0) (bank : BankGood k1) (pages : AllWhole k1.bank) where
+module _ (k0 k1 : Kernel) (number size : ℕ) (inode : Inode) (good : FilesGood k0) (below : number < 1024) (file : IsFileAt k0 number inode) (some : inode.root ≢ 0) (bank : BankGood k1) (pages : AllWhole k1.bank) where
   whole : WholeTree (tree_memory k0 inode.root)
   whole = file-whole k0 good.accounted inode.root
 
@@ -39,7 +39,7 @@ module _ (k0 k1 : Kernel) (number size : ℕ) (inode : Inode) (good : FilesGood 
   -- pages were given back from a first one on, below which one is left
   pub cut_changes : (first next : ℕ) → MapsBelow k0 inode.root first → CutsTree k0 k1 inode.root first next → ChangesTree k0 k1 number inode (without_pages (tree_memory k0 inode.root) first next)
   cut_changes first next left cut =
-      changes_tree k0 k1 number inode (without_pages (tree_memory k0 inode.root) first next) good below file all some cut.leaves cut.here
+      changes_tree k0 k1 number inode (without_pages (tree_memory k0 inode.root) first next) good below file some cut.leaves cut.here
       (cut_whole (tree_memory k0 inode.root) first next whole) (memory_cut (tree_memory k0 inode.root) first next whole inode.length memory)
       left.0 (page_of (memory_page k0) left.2)
       (before_cut (tree_memory k0 inode.root) first next left.0 left.1 ∙ there_found k0 inode.root left.0 left.2 some left.3) bank pages
@@ -49,18 +49,18 @@ module _ (k0 k1 : Kernel) (number size : ℕ) (inode : Inode) (good : FilesGood 
   clear_changes order odd cleared =
       let t = (file_root k0 number inode good.standing file some).2.some_page in
       let stays = rest_stays (tree_memory k0 inode.root) size whole t.0 (page_of (memory_page k0) t.1) (there_found k0 inode.root t.0 t.1 some t.2) in
-      changes_tree k0 k1 number inode (without_rest (tree_memory k0 inode.root) size) good below file all some cleared.leaves (cleared.here ∙ sym (rest_some (tree_memory k0 inode.root) size whole odd))
+      changes_tree k0 k1 number inode (without_rest (tree_memory k0 inode.root) size) good below file some cleared.leaves (cleared.here ∙ sym (rest_some (tree_memory k0 inode.root) size whole odd))
       (rest_whole (tree_memory k0 inode.root) size whole) (memory_rest (tree_memory k0 inode.root) size whole inode.length order memory) t.0 stays.0 stays.1 bank pages
 
 -- where a length ends with a page, there is no rest
-pub clear_nothing : (kernel : Kernel) (number size : ℕ) (inode : Inode) → FilesGood kernel → number < 1024 → IsFileAt kernel number inode → length kernel.inodes ≡ 1024 → inode.root ≢ 0 → size % 4096 ≡ 0
+pub clear_nothing : (kernel : Kernel) (number size : ℕ) (inode : Inode) → FilesGood kernel → number < 1024 → IsFileAt kernel number inode → inode.root ≢ 0 → size % 4096 ≡ 0
     → ChangesTree kernel kernel number inode (without_rest (tree_memory kernel inode.root) size)
-clear_nothing kernel number size inode good below file all some even =
+clear_nothing kernel number size inode good below file some even =
     let whole : WholeTree (tree_memory kernel inode.root) = file-whole kernel good.accounted inode.root in
     let same = rest_none (tree_memory kernel inode.root) size whole even in
     let t = (file_root kernel number inode good.standing file some).2.some_page in
     subst (ChangesTree kernel kernel number inode) (sym same)
-    (changes_tree kernel kernel number inode (tree_memory kernel inode.root) good below file all some (leaves_same kernel inode.root) refl whole (memory_of_file kernel number inode good.standing file whole)
+    (changes_tree kernel kernel number inode (tree_memory kernel inode.root) good below file some (leaves_same kernel inode.root) refl whole (memory_of_file kernel number inode good.standing file whole)
     t.0 (page_of (memory_page kernel) t.1) (there_found kernel inode.root t.0 t.1 some t.2) good.standing.bank good.standing.whole)
 
 -- ---- the steps of a cut, one after another

@@ -6,13 +6,17 @@ use Rattle.kernel_tables.specs.declared.entry.PageOwner.TheVariants.{Buffer, Pip
 use Rattle.kernel_tables.specs.declared.inode.Inode.{Inode}
 use Rattle.kernel_tables.specs.declared.inode.InodeKind.TheVariants.{Pipe}
 use Rattle.kernel_tables.specs.Kernel.{Kernel, memory_page}
+use Rattle.space_bank.specs.Bank.{BankGood}
+use Rattle.file_tables.specs.Roots.{named_by}
 use Rattle.unix_model.specs.Files as model
 use Rattle.unix_model.specs.Process.{Process}
 use Rattle.unix_model.specs.State.{Unix}
 use Rattle.unix_model.specs.Tables.{at}
+use Rattle.forest.specs.Calls.{DropsSpace}
 use Rattle.forest.specs.Forest.{IsSpace}
 use Rattle.forest.specs.Objects.{OfFile, OfProcess}
-use Rattle.kernel_forest.specs.Trees.{forest_of}
+use Rattle.kernel_forest.specs.Trees.{forest_of, TreesGood}
+use Rattle.seg_tree.specs.Promises.{Drops}
 use Rattle.domain.specs.Domains.{domains}
 use Rattle.kernel_machine.specs.Loose.{Loose, Nothing, Space, Tree, Ring, IsTaken, StandingBut}
 use Rattle.kernel_machine.specs.Machine.{KernelMachine, machine_of, inodes_of}
@@ -22,6 +26,8 @@ use Rattle.kernel_machine.specs.View.{view, memory_in, process_in, processes_in,
 use Rattle.kernel_machine.proofs.LooseLaws.{ring-word, tree-word}
 use Rattle.kernel_machine.proofs.MemoryLaws.{made-same, process-kept, inode-kept, tree-of, page-of}
 use Rattle.kernel_machine.proofs.RootStands.{ring-real}
+use Rattle.kernel_machine.proofs.SpacesStand.{memory-kept}
+use Rattle.file_trees.proofs.Views.{bytes-apart, state-now}
 
 -- Trees and the bytes of pages have changed, but the memory of no space that isn't loose, and no page of a buffer or of a pipe that isn't.
 pub record ChangesLoose (old new : Kernel) (loose : Loose) : Type 0 where
@@ -103,3 +109,22 @@ module _ (old new : Kernel) (loose : Loose) (standing : StandingBut old loose) (
       same-state (processes_in (machine_of new)) (processes_in (machine_of old)) (inodes_in (machine_of new)) (inodes_in (machine_of old)) (descriptions_in (machine_of new)) (descriptions_in (machine_of old))
       new.machine.next_pid old.machine.next_pid new.machine.size old.machine.size new.machine.quantum old.machine.quantum new.machine.position old.machine.position processes-same inodes-same descriptions-same
       (ap (λ (m : KernelMachine). m.words.next_pid) changes.rest) (ap (λ (m : KernelMachine). m.words.size) changes.rest) (ap (λ (m : KernelMachine). m.words.quantum) changes.rest) (ap (λ (m : KernelMachine). m.words.position) changes.rest)
+
+-- a tree that is loose is given back
+module _ (old new : Kernel) (root : ℕ) (standing : StandingBut old (Tree root)) (drops : Drops old new root) (bank : BankGood new) where
+  dropped : TreesGood new (named_by old.inodes) [] × DropsSpace (forest_of old) (forest_of new) root
+  dropped = drops.drops (named_by old.inodes) standing.trees
+
+  memory-beside : (other : ℕ) → Tree root ≢ Tree other → IsSpace (forest_of old) [] other → memory_in (machine_of new) (Some other) ≡ memory_in (machine_of old) (Some other)
+  unfolding machine_of memory_in
+  memory-beside other apart is =
+      let differ : other ≢ root = λ same. apart (ap Tree (sym same)) in
+      memory-kept old new drops.rest bank dropped.0.held.sound drops.keeps.bytes other (dropped.1.others.stay other is differ) (dropped.1.others.maps other is differ)
+
+  pub drop_unseen : view (machine_of new) ≡ view (machine_of old)
+  drop_unseen = loose_unseen old new (Tree root) standing (record {
+    rest = state-now old new drops.rest drops.rows_now;
+    memories = λ other space tree is. memory-beside other tree is;
+    buffers = λ page owned. bytes-apart old new drops.rest drops.apart_now page Buffer refl owned;
+    pipes = λ page apart owned. bytes-apart old new drops.rest drops.apart_now page PipePage refl owned;
+  })

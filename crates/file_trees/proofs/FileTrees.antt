@@ -115,17 +115,20 @@ module _ (kernel : Kernel) (root size : ℕ) (some : root ≢ 0) (whole : WholeT
         ∙ is.zeros (size + k) (omega arith));
   }
 
--- where no tree is, no page is there
 pub memory_absent : (kernel : Kernel) (root number : ℕ) → root ≡ 0 → at (tree_memory kernel root) number ≡ None
 unfolding file_memory nothing at
 memory_absent kernel zero number e = refl
 memory_absent kernel (suc root) number e = absurd (omega arith)
 
+-- where no tree is, no page is there, whatever the length is
+pub rootless_memory : (kernel : Kernel) (root size : ℕ) → root ≡ 0 → IsFileMemory (tree_memory kernel root) size
+rootless_memory kernel root size none = memory_empty (tree_memory kernel root) (λ number. memory_absent kernel root number none) size
+
 -- the memory of a root word
 pub memory_of_root : (kernel : Kernel) (root size : ℕ) → WholeTree (tree_memory kernel root) → (root ≢ 0 → IsFileTree (forest_of kernel).keys (memory_page kernel) root size)
     → IsFileMemory (tree_memory kernel root) size
 memory_of_root kernel root size whole tree = ⊎_elim
-    (λ (t : root ≡ 0). memory_empty (tree_memory kernel root) (λ number. memory_absent kernel root number t) size)
+    (rootless_memory kernel root size)
     (λ (some : root ≡ 0 → ⊥). tree_to_memory kernel root size some whole (tree some))
     (cases_eq root 0)
 

@@ -7,6 +7,7 @@ pub mod Cuts
 pub mod FileMemory
 pub mod FileTrees
 pub mod Views
+pub mod Promising
 pub mod Rooting
 pub mod SharedFiles
 pub mod Accounting

@@ -115,10 +115,10 @@ module _ (old mid k2 : Kernel) (space number : ℕ) (inode row : Inode) (map : �
   pub changes-now : ChangesMemory (machine_of old) (machine_of k2) space
   unfolding machine_of memory_in at
   changes-now = record {
-    rest = state-now old k2 rest-now rows-now apart-now;
+    rest = state-now old k2 rest-now rows-now;
     memories = λ other differs is. memory-same other is;
-    buffers = λ page owned. bytes-apart old k2 rest-now rows-now apart-now page Buffer refl owned;
-    pipes = λ page owned. bytes-apart old k2 rest-now rows-now apart-now page PipePage refl owned;
+    buffers = λ page owned. bytes-apart old k2 rest-now apart-now page Buffer refl owned;
+    pipes = λ page owned. bytes-apart old k2 rest-now apart-now page PipePage refl owned;
   }
 
   -- no process has the tree, and no inode had it

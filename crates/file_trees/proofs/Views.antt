@@ -33,14 +33,14 @@ owner-entry kernel page owner e = ⊎_elim
     (λ (t : nat_lt page (first_page kernel.size) ≡ false). rw t at e)
     (cases_Bool (nat_lt page (first_page kernel.size)))
 
-module _ (old new : Kernel) (rest : KeepsUnreleased old new) (rows_now : KeepsRows old new) (apart_now : KeepsApart old new) where
+module _ (old new : Kernel) (rest : KeepsUnreleased old new) where
   size-same : new.size ≡ old.size
   size-same = ap (λ (k : Kernel). k.size) rest
 
   -- a page that belongs to no tree has its bytes
-  pub bytes-apart : (page : ℕ) (owner : PageOwner) → page_tree owner ≡ None → at (page_owners old) page ≡ Some owner → memory_page new page ≡ memory_page old page
+  pub bytes-apart : KeepsApart old new → (page : ℕ) (owner : PageOwner) → page_tree owner ≡ None → at (page_owners old) page ≡ Some owner → memory_page new page ≡ memory_page old page
   unfolding first_page
-  bytes-apart page owner none owned =
+  bytes-apart apart_now page owner none owned =
       let low = owned-in-bank old page owner owned in
       let real : page ≢ 0 = λ z. absurd (omega arith) in
       let taken = is-taken (entry_at old.page_entries (page - first_page old.size)) owner (owner-entry old page owner owned) in
@@ -55,7 +55,8 @@ module _ (old new : Kernel) (rest : KeepsUnreleased old new) (rows_now : KeepsRo
       ∙ ap (λ n. let w : Words = record new.machine { size = old.machine.size; quantum = old.machine.quantum; position = old.machine.position; next_pid = n } in w) (ap (λ (k : Kernel). k.machine.next_pid) rest)
 
   pub state-now :
-      machine_of new
+      KeepsRows old new
+      → machine_of new
       ≡ record (machine_of old) {
         forest = (machine_of new).forest;
         page_bytes = (machine_of new).page_bytes;
@@ -63,15 +64,15 @@ module _ (old new : Kernel) (rest : KeepsUnreleased old new) (rows_now : KeepsRo
         words = record (machine_of new).words { size = old.machine.size; quantum = old.machine.quantum; position = old.machine.position; next_pid = old.machine.next_pid };
       }
   unfolding machine_of
-  state-now =
+  state-now rows_now =
       spaces_changed old new rows_now (ap (λ (k : Kernel). k.inodes) rest) (ap (λ (k : Kernel). k.descriptions) rest)
       ∙ ap (λ w. let m : KernelMachine = record (machine_of old) { forest = forest_of new; page_bytes = memory_page new; page_owner = page_owners new; words = w } in m) words-same
 
 pub changes_memory : (old new : Kernel) (space : ℕ) → LeavesSpaces old new space → ChangesMemory (machine_of old) (machine_of new) space
 unfolding machine_of memory_in at
 changes_memory old new space leaves = record {
-  rest = state-now old new leaves.rest leaves.rows_now leaves.apart_now;
+  rest = state-now old new leaves.rest leaves.rows_now;
   memories = λ other apart is. leaves.memories other is apart;
-  buffers = λ page owned. bytes-apart old new leaves.rest leaves.rows_now leaves.apart_now page Buffer refl owned;
-  pipes = λ page owned. bytes-apart old new leaves.rest leaves.rows_now leaves.apart_now page PipePage refl owned;
+  buffers = λ page owned. bytes-apart old new leaves.rest leaves.apart_now page Buffer refl owned;
+  pipes = λ page owned. bytes-apart old new leaves.rest leaves.apart_now page PipePage refl owned;
 }

@@ -1,6 +1,5 @@
 use Rattle.std.proofs.Common.{◌≡◌, ◌/◌, Some, sym, subst, ◌∙◌, arith}
 use Rattle.kernel_tables.specs.Kernel.{kernel_of}
-use Rattle.kernel_tables.proofs.Sizes.{length-inodes}
 use Rattle.forest.specs.Calls.{IsOwn}
 use Rattle.kernel_forest.specs.Trees.{forest_of}
 use Rattle.kernel_machine.proofs.OwnerLaws.{store_is_whole}
@@ -49,11 +48,9 @@ pub returns-then-used-ne0-clause-cleared : goal.returns-then-used-ne0-clause-cle
 returns-then-used-ne0-clause-cleared g c =
     let old = kernel_of (g.T.Store.memory c.args.store.now) in
     let new = kernel_of (g.T.Store.memory c.clear_piece.new.store) in
-    clear_changes old new c.args.file c.args.length c.args.inode c.requires.good c.requires.number c.requires.file
-    (length-inodes (g.T.Store.memory c.args.store.now) c.requires.good.standing.bank.sized) c.requires.root c.clear_piece.ensures.good
+    clear_changes old new c.args.file c.args.length c.args.inode c.requires.good c.requires.number c.requires.file c.requires.root c.clear_piece.ensures.good
     (store_is_whole (g.T.Store.memory c.clear_piece.new.store) c.clear_piece.ensures.good (g.met.T.Store.page_length c.clear_piece.new.store)) c.requires.order c.if-used-ne0.true c.clear_piece.ensures.cleared
 
 pub returns-else-used-ne0-clause-cleared : goal.returns-else-used-ne0-clause-cleared
 returns-else-used-ne0-clause-cleared g c =
-    clear_nothing (kernel_of (g.T.Store.memory c.args.store.now)) c.args.file c.args.length c.args.inode c.requires.good c.requires.number c.requires.file
-    (length-inodes (g.T.Store.memory c.args.store.now) c.requires.good.standing.bank.sized) c.requires.root c.if-used-ne0.false
+    clear_nothing (kernel_of (g.T.Store.memory c.args.store.now)) c.args.file c.args.length c.args.inode c.requires.good c.requires.number c.requires.file c.requires.root c.if-used-ne0.false

@@ -1,6 +1,5 @@
 use Rattle.std.proofs.Common.{ap₂, sym, subst, arith}
 use Rattle.kernel_tables.specs.Kernel.{kernel_of}
-use Rattle.kernel_tables.proofs.Sizes.{length-inodes}
 use Rattle.kernel_machine.proofs.OwnerLaws.{store_is_whole}
 use Rattle.file_trees.specs.Cuts.{without_pages}
 use Rattle.file_trees.specs.Trees.{tree_memory}
@@ -47,8 +46,7 @@ pub cut_pages-requires-clause-room : goal.cut_pages-requires-clause-room
 cut_pages-requires-clause-room g c between next cut bank pages =
     let old = kernel_of (g.T.Store.memory c.args.store.now) in
     let left = subst (MapsBelow old c.args.inode.root) (sym c.pages_of.ensures) c.requires.left in
-    let changes = cut_changes old between c.args.file c.args.length c.args.inode c.requires.good c.requires.number c.requires.file
-    (length-inodes (g.T.Store.memory c.args.store.now) c.requires.good.standing.bank.sized) c.requires.root bank pages c.pages_of.result next left cut in
+    let changes = cut_changes old between c.args.file c.args.length c.args.inode c.requires.good c.requires.number c.requires.file c.requires.root bank pages c.pages_of.result next left cut in
     let few = nodes_left between changes.good in
     omega arith
 
@@ -57,7 +55,6 @@ returns-clause-given g c =
     let old = kernel_of (g.T.Store.memory c.args.store.now) in
     let new = kernel_of (g.T.Store.memory c.cut_pages.new.store) in
     let left = subst (MapsBelow old c.args.inode.root) (sym c.pages_of.ensures) c.requires.left in
-    let changes = cut_changes old new c.args.file c.args.length c.args.inode c.requires.good c.requires.number c.requires.file
-    (length-inodes (g.T.Store.memory c.args.store.now) c.requires.good.standing.bank.sized) c.requires.root c.cut_pages.ensures.good
+    let changes = cut_changes old new c.args.file c.args.length c.args.inode c.requires.good c.requires.number c.requires.file c.requires.root c.cut_pages.ensures.good
     (store_is_whole (g.T.Store.memory c.cut_pages.new.store) c.cut_pages.ensures.good (g.met.T.Store.page_length c.cut_pages.new.store)) c.pages_of.result c.pages_of-2.result left c.cut_pages.ensures.cut in
     subst (ChangesTree old new c.args.file c.args.inode) (ap₂ (without_pages (tree_memory old c.args.inode.root)) c.pages_of.ensures c.pages_of-2.ensures) changes

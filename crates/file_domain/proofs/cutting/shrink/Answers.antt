@@ -1,7 +1,7 @@
 use Rattle.std.proofs.Common.{subst, arith}
 use Rattle.kernel_tables.specs.Kernel.{kernel_of}
 use Rattle.file_domain.specs.Cutting.{MapsBelow, MapsNoneBelow}
-use Rattle.file_domain.proofs.LengthRows.{rootless_memory}
+use Rattle.file_trees.proofs.FileTrees.{rootless_memory}
 use Rattle.file_domain.proofs.Seen.{file_tree, file_row}
 use Rattle.file_domain.proofs.cutting.shrink.Goals as goal
 
