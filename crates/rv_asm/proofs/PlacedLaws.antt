@@ -86,6 +86,10 @@ made_bytes : (layout : Layout) (position : Position) (line : List ℕ) (piece : 
 unfolding made_of
 made_bytes layout position line piece makes = part_bytes_made layout position line piece position.part refl makes
 
+-- what follows the first part of a list, itself in three parts
+behind : {A : Type 0} (whole first rest before others : List A) → whole ≡ first ++ rest → rest ≡ before ++ others → whole ≡ (first ++ before) ++ others
+behind whole first rest before others is so = is ∙ ap (λ rest. first ++ rest) so ∙ sym (append_assoc first before others)
+
 -- each line among the program
 pub line_is_made : (layout : Layout) (number n : ℕ) (position : Position) (line : List ℕ) (lines : List (List ℕ)) (program : Program)
     → make_lines layout number position lines ≡ Ok program → slice_get lines n ≡ Some line
@@ -118,7 +122,7 @@ line_is_made layout number (suc n) position line (first ∷ lines) program makes
       makes = further.makes;
       before = piece.instructions ++ further.before;
       after = further.after;
-      all = ap (λ p. p.instructions) (sym whole) ∙ ap (λ rest. piece.instructions ++ rest) further.all ∙ sym (append_assoc piece.instructions further.before (further.piece.instructions ++ further.after));
+      all = behind program.instructions piece.instructions others.instructions further.before (further.piece.instructions ++ further.after) (ap (λ p. p.instructions) (sym whole)) further.all;
       far = let far = further.far in omega (arith, bytes, long, far);
     }
 
