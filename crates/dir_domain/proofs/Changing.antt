@@ -2,11 +2,14 @@
 use Rattle.std.proofs.Common.{◌≡◌, ◌≢◌, ℕ, ◌+◌, ◌*◌, ◌/◌, ◌<◌, ◌≤◌, Some, List, length, set, refl, ap, ap₂, sym, subst, ◌∙◌, arith}
 use Rattle.std.specs.Prelude.{option_map, ◌%◌}
 use Rattle.std.proofs.lemmas.List.{length-set}
+use Rattle.kernel_tables.specs.declared.entry.PageOwner.TheVariants.{Directory}
 use Rattle.kernel_tables.specs.declared.inode.Inode.{Inode}
 use Rattle.kernel_tables.specs.declared.inode.InodeKind.{InodeKind}
 use Rattle.kernel_tables.specs.declared.inode.InodeKind.TheVariants.{File, Dir, Pipe, Console}
 use Rattle.kernel_tables.specs.Kernel.{Kernel, memory_page}
 use Rattle.space_bank.specs.Bank.{BankGood}
+use Rattle.forest.specs.Walks.{map_of}
+use Rattle.kernel_forest.specs.Owners.{page_owners, PagesAreOf}
 use Rattle.kernel_forest.specs.Trees.{forest_of}
 use Rattle.unix_model.specs.Files as model
 use Rattle.unix_model.specs.Files.{parent_of, with_inode}
@@ -19,7 +22,7 @@ use Rattle.kernel_machine.specs.Held.{AllWhole}
 use Rattle.kernel_machine.specs.Laws.{ChangesMemory}
 use Rattle.kernel_machine.specs.Machine.{KernelMachine, machine_of, inodes_of}
 use Rattle.kernel_machine.specs.Standing.{Standing}
-use Rattle.kernel_machine.specs.Trees.{HasTree, IsFileTree}
+use Rattle.kernel_machine.specs.Trees.{HasTree, IsFileTree, pages_owner}
 use Rattle.kernel_machine.specs.View.{view, inode_by, inode_in, inodes_in, files_in, stored}
 use Rattle.kernel_machine.proofs.MemoryLaws.{tree_changed}
 use Rattle.kernel_machine.proofs.PagesHeld.{file-long, places-long}
@@ -32,7 +35,7 @@ use Rattle.file_trees.proofs.Views.{changes_memory}
 use Rattle.dir_domain.specs.Changes.{ChangesPlaces, with_tree}
 use Rattle.dir_domain.specs.Rows.{IsDirectoryRow, places_seen, inode_seen, bytes_stored}
 use Rattle.dir_domain.proofs.PlaceWrites.{places-put}
-use Rattle.dir_domain.proofs.Seen.{places-are, tree-whole}
+use Rattle.dir_domain.proofs.Seen.{places-are, tree-owned, tree-whole}
 
 -- what an inode that is a directory is seen as
 dir-by : (machine : KernelMachine) (row : Inode) (kind : InodeKind) → kind ≡ Dir → inode_by machine row kind ≡ model.Directory row.parent (places_in (stored machine row) (row.length / 32))
@@ -56,7 +59,7 @@ unfolding inodes_in machine_of inodes_of at
 parent-seen kernel dir row is = ap (λ there. parent_of (option_map (inode_in (machine_of kernel)) there)) is.there ∙ ap (λ i. parent_of (Some i)) (dir-in (machine_of kernel) row is.kind)
 
 module _ (old new : Kernel) (dir number : ℕ) (row : Inode) (bytes : List ℕ) (standing : Standing old) (is : IsDirectoryRow old dir row) (some : row.root ≢ 0) (below : number < row.length / 32)
-    (long : length bytes ≡ 32) (puts : PutsInTree old new row.root (32 * number) bytes) (bank : BankGood new) (all : AllWhole new.bank) where
+    (long : length bytes ≡ 32) (puts : PutsInTree old new row.root (32 * number) bytes Directory) (bank : BankGood new) (all : AllWhole new.bank) where
   abbrev before : Memory
   before = tree_memory old row.root
 
@@ -71,10 +74,15 @@ module _ (old new : Kernel) (dir number : ℕ) (row : Inode) (bytes : List ℕ) 
 
   file-now : IsFileTree (forest_of new).keys (memory_page new) row.root row.length
   file-now =
-      tree_put old new row.root row.length (32 * number) bytes whole in-page within puts some (omega (arith, long)) (memory_of_root old row.root row.length whole is.file)
+      tree_put old new row.root row.length (32 * number) bytes Directory whole in-page within puts some (omega (arith, long))
+      (memory_of_root old row.root row.length whole is.file)
+
+  owned-now : PagesAreOf (pages_owner row.kind) (page_owners new) (map_of (forest_of new).keys row.root)
+  owned-now = subst (λ k. PagesAreOf (pages_owner k) (page_owners new) (map_of (forest_of new).keys row.root)) (sym is.kind)
+      (puts.owned (tree-owned old dir row standing is some))
 
   standing-now : Standing new
-  standing-now = standing_with_tree old new row.root dir row puts.leaves is.there (has-tree row.kind is.kind) refl file-now bank all standing
+  standing-now = standing_with_tree old new row.root dir row puts.leaves is.there (has-tree row.kind is.kind) refl file-now owned-now bank all standing
 
   memory-now : ChangesMemory (machine_of old) (machine_of new) row.root
   memory-now = changes_memory old new row.root puts.leaves
@@ -85,7 +93,7 @@ module _ (old new : Kernel) (dir number : ℕ) (row : Inode) (bytes : List ℕ) 
 
   places-now : places_in (stored (machine_of new) row) (row.length / 32) ≡ set (places_seen old dir) number (place_in bytes)
   places-now =
-      ap (λ xs. places_in xs (row.length / 32)) (bytes_put old new row.root row.length (32 * number) bytes whole in-page within puts)
+      ap (λ xs. places_in xs (row.length / 32)) (bytes_put old new row.root row.length (32 * number) bytes Directory whole in-page within puts)
       ∙ places-put (bytes_stored old row) bytes number long (omega (arith, long, file-long before whole row.length)) (row.length / 32) below
       ∙ ap (λ places. set places number (place_in bytes)) (sym (places-are old dir row is))
 

@@ -3,6 +3,7 @@ use Rattle.std.proofs.Common.{◌≡◌, ◌≢◌, ℕ, ◌+◌, ◌*◌, ◌/�
 use Rattle.std.specs.Prelude.{◌%◌, slice_index_or}
 use Rattle.std.proofs.lemmas.List.{length-set}
 use Rattle.kn_base.specs.Memory.{zero_page}
+use Rattle.kernel_tables.specs.declared.entry.PageOwner.TheVariants.{Directory}
 use Rattle.kernel_tables.specs.declared.inode.Inode.{Inode}
 use Rattle.kernel_tables.specs.declared.row.Row.TheVariants.{Used, Unspelled}
 use Rattle.kernel_tables.specs.Kernel.{Kernel, memory_page}
@@ -10,6 +11,7 @@ use Rattle.space_bank.specs.Bank.{BankGood}
 use Rattle.space_bank.specs.Laws.{and_outside}
 use Rattle.forest.specs.Calls.{AddsSpace}
 use Rattle.forest.specs.Walks.{Mapping, map_of, space_key}
+use Rattle.kernel_forest.specs.Owners.{page_owners, PagesAreOf}
 use Rattle.kernel_forest.specs.Trees.{forest_of, TreesGood}
 use Rattle.file_tables.specs.Roots.{named_by, ExchangesRoots}
 use Rattle.file_tables.specs.Rows.{InodesGood}
@@ -25,7 +27,7 @@ use Rattle.kernel_machine.specs.Held.{AllWhole}
 use Rattle.kernel_machine.specs.Laws.{ChangesMemory}
 use Rattle.kernel_machine.specs.Machine.{KernelMachine, machine_of, inodes_of, held}
 use Rattle.kernel_machine.specs.Standing.{Standing}
-use Rattle.kernel_machine.specs.Trees.{IsFileTree}
+use Rattle.kernel_machine.specs.Trees.{IsFileTree, pages_owner}
 use Rattle.kernel_machine.specs.View.{view, files_in, memory_in, stored}
 use Rattle.kernel_machine.proofs.MachineLaws.{inode_written}
 use Rattle.kernel_machine.proofs.PagesHeld.{file-long, places-long}
@@ -33,6 +35,7 @@ use Rattle.file_trees.specs.Trees.{tree_memory, tree_page}
 use Rattle.file_trees.proofs.Contents.{WholeTree}
 use Rattle.file_trees.proofs.FileMemory.{memory_empty}
 use Rattle.file_trees.proofs.FileTrees.{bytes_put, tree_put}
+use Rattle.file_trees.proofs.Owned.{owned_none}
 use Rattle.file_trees.proofs.Pages.{tree_is_space, page_absent, page_none, zero_long}
 use Rattle.file_trees.proofs.Pieces.{space_some}
 use Rattle.file_trees.proofs.Rooting.{changes-now, root_stands, root_seen}
@@ -97,14 +100,21 @@ module _ (old k2 : Kernel) (dir size number space : ℕ) (row : Inode) (bytes : 
 
   file-now : IsFileTree (forest_of k2).keys (memory_page k2) space size
   file-now =
-      tree_put mid k2 space size (32 * number) bytes whole in-page (omega (arith, long)) planted.puts some (omega (arith, long)) (memory_empty before empty size)
+      tree_put mid k2 space size (32 * number) bytes Directory whole in-page (omega (arith, long)) planted.puts some (omega (arith, long))
+      (memory_empty before empty size)
+
+  -- it had no pages, so all are of a directory
+  owned-now : PagesAreOf (pages_owner row.kind) (page_owners k2) (map_of (forest_of k2).keys space)
+  owned-now = subst (λ k. PagesAreOf (pages_owner k) (page_owners k2) (map_of (forest_of k2).keys space)) (sym is.kind)
+      (planted.puts.owned (owned_none Directory (page_owners mid) (map_of (forest_of mid).keys space) unmapped))
 
   inodes-now : k2.inodes ≡ old.inodes
   inodes-now = ap (λ (k : Kernel). k.inodes) planted.puts.leaves.rest ∙ ap (λ (k : Kernel). k.inodes) planted.adds.rest
 
   standing-now : ExchangesRoots k2 now dir (Used rooted) → InodesGood now.inodes → AllWhole k2.bank → Standing now
   standing-now exchanges good all =
-      root_stands old mid k2 space dir row rooted (λ page. None) planted.adds planted.puts.leaves standing is.used inside (has-tree row.kind is.kind) none refl refl some planted.good bank all exchanges good file-now
+      root_stands old mid k2 space dir row rooted (λ page. None) planted.adds planted.puts.leaves standing is.used inside
+      (has-tree row.kind is.kind) none refl refl some planted.good bank all exchanges good file-now owned-now
 
   machine-now : machine_of now ≡ record (machine_of k2) { inodes = with_at (inodes_of k2) dir (Some rooted) }
   machine-now = inode_written k2 now dir (Used rooted) (subst (λ rows. dir < length rows) (sym inodes-now) inside) refl
@@ -119,7 +129,7 @@ module _ (old k2 : Kernel) (dir size number space : ℕ) (row : Inode) (bytes : 
 
   places-now : places_in (stored (machine_of k2) rooted) (size / 32) ≡ places
   places-now =
-      ap (λ xs. places_in xs (size / 32)) (bytes_put mid k2 space size (32 * number) bytes whole in-page (omega (arith, long)) planted.puts)
+      ap (λ xs. places_in xs (size / 32)) (bytes_put mid k2 space size (32 * number) bytes Directory whole in-page (omega (arith, long)) planted.puts)
       ∙ places-put (file_in before size) bytes number long (omega (arith, file-long before whole size)) (size / 32) below
       ∙ ap (λ xs. set xs number (place_in bytes))
       (same-places (file_in before size) (file_in (tree_memory old row.root) size) (size / 32)

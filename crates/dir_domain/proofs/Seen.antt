@@ -4,13 +4,16 @@ use Rattle.std.specs.Prelude.{option_map}
 use Rattle.std.proofs.lemmas.Bool.{cases_eq, cases_lt, ne_eqb}
 use Rattle.std.proofs.lemmas.List.{get_or_past, length-replicate}
 use Rattle.kn_base.specs.Memory.{Memory, zero_page}
+use Rattle.kernel_tables.specs.declared.entry.PageOwner.TheVariants.{Directory}
 use Rattle.kernel_tables.specs.declared.inode.Inode.{Inode}
 use Rattle.kernel_tables.specs.declared.inode.InodeKind.{InodeKind}
 use Rattle.kernel_tables.specs.declared.inode.InodeKind.TheVariants.{File, Dir, Pipe, Console}
 use Rattle.kernel_tables.specs.declared.row.Row.TheVariants.{Free, Used, Unspelled}
 use Rattle.kernel_tables.specs.Kernel.{Kernel, kernel_of, IsBankPage, first_page, memory_page, inode_at}
 use Rattle.kernel_tables.proofs.Sizes.{length-inodes}
+use Rattle.forest.specs.Objects.{NodeObject, OfFile}
 use Rattle.forest.specs.Walks.{map_of}
+use Rattle.kernel_forest.specs.Owners.{page_owners, PagesAreOf}
 use Rattle.kernel_forest.specs.Trees.{forest_of}
 use Rattle.file_tables.specs.Rows.{IsOfKind, IsInodeRow, IsInodeAt, IsDirectory}
 use Rattle.unix_model.specs.Files.{is_directory, places_of}
@@ -18,7 +21,7 @@ use Rattle.unix_model.specs.Tables.{at}
 use Rattle.user_copy.proofs.Pieces.{WholePages}
 use Rattle.kernel_machine.specs.Contents.{places_in}
 use Rattle.kernel_machine.specs.Machine.{KernelMachine, machine_of, inodes_of, held}
-use Rattle.kernel_machine.specs.Standing.{Standing, page_owners}
+use Rattle.kernel_machine.specs.Standing.{Standing}
 use Rattle.kernel_machine.specs.Trees.{IsRootOf}
 use Rattle.kernel_machine.specs.View.{inode_by, inode_in, inodes_in, stored}
 use Rattle.file_trees.specs.Trees.{IsTree, tree_memory, tree_page}
@@ -78,6 +81,20 @@ directory-row memory dir row standing is e =
       used = e;
       right = right;
     }
+
+-- its root is that of a tree of a directory, or 0
+dir-root : (kernel : Kernel) (dir : ℕ) (row : Inode) → Standing kernel → IsDirectoryRow kernel dir row
+    → IsRootOf (forest_of kernel) (memory_page kernel) (page_owners kernel) row Dir
+dir-root kernel dir row standing is =
+    subst (IsRootOf (forest_of kernel) (memory_page kernel) (page_owners kernel) row) is.kind (standing.roots.each dir row is.there)
+
+pub tree-of-file : (kernel : Kernel) (dir : ℕ) (row : Inode) → Standing kernel → IsDirectoryRow kernel dir row → row.root ≢ 0
+    → (forest_of kernel).owner (NodeObject row.root) ≡ Some OfFile
+tree-of-file kernel dir row standing is some = (dir-root kernel dir row standing is some).1
+
+pub tree-owned : (kernel : Kernel) (dir : ℕ) (row : Inode) → Standing kernel → IsDirectoryRow kernel dir row → row.root ≢ 0
+    → PagesAreOf Directory (page_owners kernel) (map_of (forest_of kernel).keys row.root)
+tree-owned kernel dir row standing is some = (dir-root kernel dir row standing is some).3
 
 -- the number of no inode isn't that of a directory
 pub no-directory : (kernel : Kernel) (dir : ℕ) → is_directory (inode_seen kernel dir) ≡ true → inode_at kernel dir ≡ Free → ⊥

@@ -2,6 +2,7 @@
 use Rattle.std.proofs.Common.{◌≡◌, ◌≢◌, ℕ, zero, suc, ◌*◌, ◌/◌, ◌<◌, ◌≤◌, Option, Some, List, [], length, set, refl, ap, sym, subst, ◌∙◌}
 use Rattle.std.specs.Prelude.{◌%◌}
 use Rattle.std.proofs.lemmas.List.{get_or-set_same}
+use Rattle.kernel_tables.specs.declared.entry.PageOwner.TheVariants.{Directory}
 use Rattle.kernel_tables.specs.declared.inode.Inode.{Inode}
 use Rattle.kernel_tables.specs.declared.inode.InodeKind.{InodeKind}
 use Rattle.kernel_tables.specs.declared.inode.InodeKind.TheVariants.{File, Dir, Pipe, Console}
@@ -9,6 +10,8 @@ use Rattle.kernel_tables.specs.declared.row.Row.TheVariants.{Used, Unspelled}
 use Rattle.kernel_tables.specs.Kernel.{Kernel, memory_page}
 use Rattle.forest.specs.Forest.{IsSpace}
 use Rattle.forest.specs.Objects.{NodeObject, OfFile}
+use Rattle.forest.specs.Walks.{map_of}
+use Rattle.kernel_forest.specs.Owners.{page_owners, PagesAreOf}
 use Rattle.kernel_forest.specs.Trees.{forest_of}
 use Rattle.file_tables.specs.Roots.{ExchangesRoots}
 use Rattle.file_tables.specs.Rows.{InodesGood, IsInodeAt, IsOfKind, IsDirectory}
@@ -20,18 +23,17 @@ use Rattle.unix_model.proofs.TableLaws.{at-with_at, with_at-twice}
 use Rattle.kernel_machine.specs.Contents.{file_in, places_in}
 use Rattle.kernel_machine.specs.Laws.{ChangesMemory}
 use Rattle.kernel_machine.specs.Machine.{KernelMachine, machine_of, inodes_of}
-use Rattle.kernel_machine.specs.Standing.{Standing, page_owners}
+use Rattle.kernel_machine.specs.Standing.{Standing}
 use Rattle.kernel_machine.specs.Trees.{IsFileTree, IsRootOf}
 use Rattle.kernel_machine.specs.View.{view, inode_in, inodes_in, files_in, file_memory, memory_in}
 use Rattle.kernel_machine.proofs.MachineLaws.{inode_written}
-use Rattle.kernel_machine.proofs.MemoryLaws.{tree-of}
 use Rattle.kernel_machine.proofs.SetLaws.{inode_set}
 use Rattle.kernel_machine.proofs.StandingLaws.{standing_with_inode}
 use Rattle.file_trees.proofs.FileTrees.{tree_grown}
 use Rattle.dir_domain.specs.Changes.{ChangesPlaces, with_tree, places_for}
 use Rattle.dir_domain.specs.Rows.{IsDirectoryRow, places_seen, inode_seen}
-use Rattle.dir_domain.proofs.Changing.{dir-in, has-tree, parent-seen}
-use Rattle.dir_domain.proofs.Seen.{places-are, tree-whole}
+use Rattle.dir_domain.proofs.Changing.{dir-in, parent-seen}
+use Rattle.dir_domain.proofs.Seen.{places-are, tree-of-file, tree-owned, tree-whole}
 
 -- a directory may have another root, and another length
 pub right-with : (dir : ℕ) (row : Inode) (root size : ℕ) → IsInodeAt dir row → row.kind ≡ Dir → size ≤ 32768 → size % 32 ≡ 0 → IsInodeAt dir (record row { root = root; length = size })
@@ -45,7 +47,9 @@ right-with dir row root size right kind few whole =
     }
 
 root-by : (old : Kernel) (row : Inode) (kind : InodeKind) → kind ≡ Dir
-    → (row.root ≢ 0 → IsSpace (forest_of old) [] row.root × ((forest_of old).owner (NodeObject row.root) ≡ Some OfFile) × IsFileTree (forest_of old).keys (memory_page old) row.root row.length)
+    → (row.root ≢ 0 → IsSpace (forest_of old) [] row.root × ((forest_of old).owner (NodeObject row.root) ≡ Some OfFile)
+    × IsFileTree (forest_of old).keys (memory_page old) row.root row.length
+    × PagesAreOf Directory (page_owners old) (map_of (forest_of old).keys row.root))
     → IsRootOf (forest_of old) (memory_page old) (page_owners old) row kind
 root-by old row File e is = cc
 root-by old row Dir e is = is
@@ -60,16 +64,14 @@ module _ (old : Kernel) (dir size : ℕ) (row : Inode) (standing : Standing old)
   abbrev mid : Kernel
   mid = record old { inodes = set old.inodes dir (Used longer) }
 
-  of-file : (forest_of old).owner (NodeObject row.root) ≡ Some OfFile
-  of-file = (tree-of (forest_of old) (memory_page old) (page_owners old) row row.kind (standing.roots.each dir row is.there) (has-tree row.kind is.kind) some).1
-
   tree-now : IsFileTree (forest_of old).keys (memory_page old) row.root size
   tree-now = tree_grown old row.root row.length size some (tree-whole old row.root standing is.tree) order (is.file some)
 
   pub longer-stands : (new : Kernel) → new ≡ mid → ExchangesRoots old new dir (Used longer) → InodesGood new.inodes → Standing new
   longer-stands new e exchanges good =
       standing_with_inode old new dir row longer inside is.used e exchanges good refl refl
-      (root-by old longer longer.kind is.kind (λ real. (is.tree real, of-file, tree-now))) standing
+      (root-by old longer longer.kind is.kind
+      (λ real. (is.tree real, tree-of-file old dir row standing is some, tree-now, tree-owned old dir row standing is some))) standing
 
   machine-mid : machine_of mid ≡ record (machine_of old) { inodes = with_at (inodes_of old) dir (Some longer) }
   machine-mid = inode_written old mid dir (Used longer) inside refl

@@ -1,5 +1,6 @@
 -- The places of a directory change.
 use Rattle.std.specs.Prelude.{◌≡◌, ◌<◌, ◌≤◌, ◌+◌, ◌-◌, ◌*◌, ◌/◌, ◌⊎◌, ◌++◌, ◌∷◌, [], ℕ, List, Option, Some, None, is_some, length, Result, Ok, Err}
+use Rattle.kernel_tables.specs.declared.entry.PageOwner.TheVariants.{Directory}
 use Rattle.kernel_tables.specs.declared.inode.Inode.{Inode}
 use Rattle.kernel_tables.specs.Kernel.{Kernel}
 use Rattle.kn_base.specs.declared.key.Key.TheVariants.{Null}
@@ -49,12 +50,12 @@ entry_of name inode = record { name = name; inode = inode }
 abbrev pub places_for : Kernel → Inode → ℕ → List (Option Entry)
 places_for kernel row size = places_in (bytes_stored kernel (record row { length = size })) (size / place_bytes)
 
--- A tree was made, and bytes were put into it.
+-- A tree was made, and bytes were put into it, in a page of a directory.
 pub record Plants (old new : Kernel) (space place : ℕ) (bytes : List ℕ) : Type 0 where
   pub mid : Kernel
   pub adds : Adds old mid space (Some OfFile) Null (λ page. None)
   pub good : BankGood mid
-  pub puts : PutsInTree mid new space place bytes
+  pub puts : PutsInTree mid new space place bytes Directory
 
 -- the state with a name more in a directory, or why there is none
 abbrev pub with_name_added : Unix → ℕ → List ℕ → ℕ → Result Unix Errno

@@ -22,7 +22,7 @@ use super::search::{first_hole, first_named};
 use super::write::write_place;
 use file_tables::set_inode;
 use file_trees::put_piece;
-use kernel_tables::{Inode, NodeOwner};
+use kernel_tables::{Inode, NodeOwner, PageOwner};
 use kn_base::{Key, Store};
 use seg_tree::{Space, new_space};
 use space_bank::promise;
@@ -40,7 +40,7 @@ fn plant<T: Store>(store: &mut T, number: u32, bytes: &[u8; 32]) -> Space
     ensures keeps { T.keeps store.old store.new }
 {
     let tree = new_space(store, NodeOwner::FileTree, Key::Null);
-    put_piece(store, tree, 32 * number, bytes);
+    put_piece(store, tree, 32 * number, bytes, PageOwner::Directory);
     tree
 }
 

@@ -13,7 +13,7 @@ ghost use Rattle.dir_domain.specs.Changes.{ChangesPlaces};
 ghost use Rattle.dir_domain.specs.Rows.{IsDirectoryRow, places_seen};
 
 use file_trees::put_piece;
-use kernel_tables::Inode;
+use kernel_tables::{Inode, PageOwner};
 use kn_base::{NodeId, Store};
 use seg_tree::Space;
 
@@ -31,5 +31,6 @@ pub fn write_place<T: Store>(store: &mut T, row: &Inode, number: u32, bytes: &[u
     ensures most { (kernel_of (T.memory store.new)).machine.nodes_taken ≤ (kernel_of (T.memory store.old)).machine.nodes_taken + 12 }
     ensures keeps { T.keeps store.old store.new }
 {
-    put_piece(store, Space(NodeId(row.root)), 32 * number, bytes);
+    let tree = Space(NodeId(row.root));
+    put_piece(store, tree, 32 * number, bytes, PageOwner::Directory);
 }

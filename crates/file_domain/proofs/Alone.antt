@@ -3,7 +3,7 @@ use Rattle.std.proofs.Common.{◌≡◌, ◌≢◌, ◌⊎◌, ℕ, ◌+◌, ◌
 use Rattle.std.specs.Prelude.{◌==◌, slice_index_or, cond}
 use Rattle.std.specs.List.{count_by}
 use Rattle.std.specs.Option.{is_some}
-use Rattle.std.proofs.lemmas.Bool.{cases_eq, cases_lt, eq-eqb, le-ltb, lt-ltb, ne_eqb}
+use Rattle.std.proofs.lemmas.Bool.{cases_eq, cases_lt, eq-eqb, lt-ltb, ne_eqb}
 use Rattle.std.proofs.lemmas.List.Sums.{sum_by-cons}
 use Rattle.kn_base.specs.declared.key.Key.{Key}
 use Rattle.kn_base.specs.declared.key.Key.TheVariants.{Null, Number, Page, Node, Segment, Start, Resume, Domain, Meter, Service}
@@ -30,18 +30,19 @@ use Rattle.domain.specs.Rules.{RowsGood}
 use Rattle.domain.proofs.FieldLaws.{root_buffer}
 use Rattle.forest.specs.Forest.{Sound, masked}
 use Rattle.forest.specs.Objects.{NodeObject, PageObject, named}
+use Rattle.kernel_forest.specs.Owners.{owner_in, page_owner_of, page_owners}
 use Rattle.kernel_forest.specs.Trees.{forest_of, owner_of}
 use Rattle.kernel_forest.proofs.Bridge.{count_places}
+use Rattle.kernel_forest.proofs.Owners.{owned-entry, owned-in-bank}
 use Rattle.unix_model.specs.Tables.{at}
 use Rattle.kernel_machine.specs.Held.{IsNodeOf, NodesHeld}
 use Rattle.kernel_machine.specs.Invocations.{FixedBut}
 use Rattle.kernel_machine.specs.Loose.{Loose, Nothing, Space, Tree, Ring, StandingBut, loose_key, outside_with, root_of}
-use Rattle.kernel_machine.specs.Machine.{held as row_held, inodes_of, owner_in, page_owner_of}
+use Rattle.kernel_machine.specs.Machine.{held as row_held, inodes_of}
 use Rattle.kernel_machine.specs.Processes.{HoldingsGood}
-use Rattle.kernel_machine.specs.Standing.{page_owners}
 use Rattle.kernel_machine.proofs.Counting.{count-never}
 use Rattle.kernel_machine.proofs.LooseLaws.{loose-root}
-use Rattle.kernel_machine.proofs.OwnerLaws.{owned-below, owned-in-bank, unowned-by}
+use Rattle.kernel_machine.proofs.OwnerLaws.{owned-below, unowned-by}
 use Rattle.kernel_machine.proofs.RootStands.{ring-real}
 use Rattle.kernel_machine.proofs.StandingLaws.{meter-live}
 use Rattle.file_domain.specs.Dropping.{IsNamedOnce}
@@ -259,4 +260,4 @@ module _ (kernel : Kernel) (page : ℕ) (apart : List ℕ) (standing : StandingB
       let places = in_no_node kernel page owned standing.bank standing.trees.held.sound standing.rows standing.holdings standing.nodes_held apart fixed in
       let rows = no-row in
       let mine : cond {A = ℕ} (page == page) 1 0 ≡ 1 = ap (λ b. cond {A = ℕ} b 1 0) (eq-eqb page page refl) in
-      once-by (entry_at kernel.page_entries (page - first_page kernel.size)) (rw (le-ltb page (first_page kernel.size) low) at owned) (agreed ∙ names ∙ omega arith)
+      once-by (entry_at kernel.page_entries (page - first_page kernel.size)) (owned-entry kernel page PipePage owned) (agreed ∙ names ∙ omega arith)

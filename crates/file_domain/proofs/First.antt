@@ -3,6 +3,7 @@ use Rattle.std.proofs.Common.{◌≡◌, ◌≢◌, ℕ, zero, suc, ◌+◌, ◌
 use Rattle.kn_base.specs.declared.key.Key.TheVariants.{Null}
 use Rattle.kn_base.specs.Rows.{overwritten}
 use Rattle.kn_base.proofs.RowLaws.{length-overwritten}
+use Rattle.kernel_tables.specs.declared.entry.PageOwner.TheVariants.{File as FilePage}
 use Rattle.kernel_tables.specs.declared.inode.Inode.{Inode}
 use Rattle.kernel_tables.specs.declared.row.Row.{Row}
 use Rattle.kernel_tables.specs.declared.row.Row.TheVariants.{Used}
@@ -13,9 +14,10 @@ use Rattle.file_tables.specs.Roots.{ExchangesRoots, named_by}
 use Rattle.forest.specs.Calls.{AddsSpace}
 use Rattle.file_tables.specs.Rows.{InodesGood}
 use Rattle.forest.specs.Forest.{IsSpace}
-use Rattle.forest.specs.Objects.{OfFile}
+use Rattle.forest.specs.Objects.{NodeObject, OfFile}
 use Rattle.forest.specs.Walks.{Mapping, map_of}
 use Rattle.kernel_forest.proofs.GivingNodes.{unreleased}
+use Rattle.kernel_forest.specs.Owners.{page_owners, PagesAreOf}
 use Rattle.kernel_forest.specs.Releases.{KeepsUnreleased}
 use Rattle.kernel_forest.specs.Trees.{forest_of}
 use Rattle.seg_tree.specs.Promises.{Adds}
@@ -31,7 +33,7 @@ use Rattle.kernel_machine.specs.Held.{AllWhole}
 use Rattle.kernel_machine.specs.Loose.{Tree, StandingBut}
 use Rattle.kernel_machine.specs.Machine.{KernelMachine, machine_of}
 use Rattle.kernel_machine.specs.Standing.{Standing}
-use Rattle.kernel_machine.specs.Trees.{IsFileTree}
+use Rattle.kernel_machine.specs.Trees.{IsFileTree, pages_owner}
 use Rattle.kernel_machine.specs.View.{view, stored, file_memory, files_in, inodes_in, descriptions_in}
 use Rattle.kernel_machine.proofs.AddStands.{standing_with_space}
 use Rattle.kernel_machine.proofs.MachineLaws.{inode_written}
@@ -42,6 +44,7 @@ use Rattle.file_trees.specs.Trees.{tree_memory}
 use Rattle.file_trees.proofs.Contents.{WholeTree}
 use Rattle.file_trees.proofs.FileMemory.{memory_empty}
 use Rattle.file_trees.proofs.FileTrees.{bytes_put, tree_put}
+use Rattle.file_trees.proofs.Owned.{owned_none}
 use Rattle.file_trees.proofs.Pages.{tree_is_space, zero_long}
 use Rattle.file_trees.proofs.Pieces.{space_some}
 use Rattle.file_trees.proofs.Rooting.{root_stands, root_seen}
@@ -66,6 +69,9 @@ module _ (k0 k1 : Kernel) (number root : ℕ) (inode : Inode) (good : FilesGood 
 
   pub is1 : IsSpace (forest_of k1) [] root
   is1 = standing1.is_loose.taken.0
+
+  pub owner1 : (forest_of k1).owner (NodeObject root) ≡ Some OfFile
+  owner1 = standing1.is_loose.taken.1
 
   pub some1 : root ≢ 0
   some1 = space_some k1 root bank1 is1
@@ -92,7 +98,7 @@ module _ (k0 k1 : Kernel) (number root : ℕ) (inode : Inode) (good : FilesGood 
   memory1 size = memory_empty (tree_memory k1 root) absent1 size
 
   module _ (k2 : Kernel) (place : ℕ) (bytes : List ℕ) (below : number < 1024) (all : length k0.inodes ≡ 1024) (any : 0 < length bytes) (inside : place % 4096 + length bytes ≤ 4096) (within : place + length bytes ≤ inode.length)
-      (put : PutsInTree k1 k2 root place bytes) (bank2 : BankGood k2) (pages2 : AllWhole k2.bank) where
+      (put : PutsInTree k1 k2 root place bytes FilePage) (bank2 : BankGood k2) (pages2 : AllWhole k2.bank) where
     abbrev row : Inode
     row = record inode { root = root }
 
@@ -118,20 +124,26 @@ module _ (k0 k1 : Kernel) (number root : ℕ) (inode : Inode) (good : FilesGood 
     file2 = record { there = ap (λ (rows : List (Row Inode)). inode_at (record k0 { inodes = rows }) number) inodes2 ∙ file.there; kind = file.kind }
 
     tree2 : IsFileTree (forest_of k2).keys (memory_page k2) root inode.length
-    tree2 = tree_put k1 k2 root inode.length place bytes whole1 inside within put some1 any (memory1 inode.length)
+    tree2 = tree_put k1 k2 root inode.length place bytes FilePage whole1 inside within put some1 any (memory1 inode.length)
+
+    -- it had no pages, so all are of a file
+    owned2 : PagesAreOf (pages_owner inode.kind) (page_owners k2) (map_of (forest_of k2).keys root)
+    owned2 = subst (λ k. PagesAreOf (pages_owner k) (page_owners k2) (map_of (forest_of k2).keys root)) (sym file.kind)
+        (put.owned (owned_none FilePage (page_owners k1) (map_of (forest_of k1).keys root) empty_map))
 
     number_inside : number < length k0.inodes
     number_inside = omega (arith, all)
 
     standing3 : ExchangesRoots k2 k3 number (Used row) → InodesGood k3.inodes → Standing k3
     standing3 exchanges rows =
-        root_stands k0 k1 k2 root number inode row (λ page. None) adds put.leaves good.standing file.there number_inside (has-tree inode.kind file.kind) none refl refl some1 bank1 bank2 pages2 exchanges rows tree2
+        root_stands k0 k1 k2 root number inode row (λ page. None) adds put.leaves good.standing file.there number_inside
+        (has-tree inode.kind file.kind) none refl refl some1 bank1 bank2 pages2 exchanges rows tree2 owned2
 
     -- ---- what is seen
 
     bytes2 : stored (machine_of k2) row ≡ overwritten (stored (machine_of k0) inode) place bytes
     bytes2 =
-        bytes_put k1 k2 root inode.length place bytes whole1 inside within put
+        bytes_put k1 k2 root inode.length place bytes FilePage whole1 inside within put
         ∙ ap (λ (m : Memory). overwritten (file_in m inode.length) place bytes) (empty ∙ sym (no_pages k0 inode.root none))
 
     file_seen : view (machine_of k3) ≡ with_file (view (machine_of k0)) number (overwritten (stored (machine_of k0) inode) place bytes)

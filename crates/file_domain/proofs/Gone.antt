@@ -9,6 +9,7 @@ use Rattle.kernel_tables.specs.declared.row.Row.TheVariants.{Free, Unspelled}
 use Rattle.kernel_tables.specs.Kernel.{Kernel, first_page, inode_at, memory_page}
 use Rattle.kernel_tables.specs.Rows.{domain_rows, fixed_rows, is_fixed, of_domain}
 use Rattle.kernel_forest.proofs.RowLaws.{domains_apart, fixed_apart}
+use Rattle.kernel_forest.specs.Owners.{page_owners}
 use Rattle.kernel_forest.specs.Trees.{forest_of}
 use Rattle.space_bank.specs.Bank.{BankGood}
 use Rattle.file_tables.specs.Roots.{ExchangesRoots}
@@ -22,7 +23,6 @@ use Rattle.unix_model.proofs.RoomLaws.{promised-inode}
 use Rattle.kernel_machine.specs.Invocations.{FixedBut}
 use Rattle.kernel_machine.specs.Loose.{StandingBut, root_of, word_of}
 use Rattle.kernel_machine.specs.Machine.{KernelMachine, machine_of, inodes_of, descriptions_of, held}
-use Rattle.kernel_machine.specs.Standing.{page_owners}
 use Rattle.kernel_machine.specs.View.{view, inode_by, inode_in, inodes_in}
 use Rattle.kernel_machine.proofs.LooseLaws.{nothing_loose, ring-word}
 use Rattle.kernel_machine.proofs.MachineLaws.{inode_written}

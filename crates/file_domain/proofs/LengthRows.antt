@@ -7,6 +7,7 @@ use Rattle.kernel_tables.specs.Kernel.{Kernel, memory_page}
 use Rattle.space_bank.specs.Bank.{BankGood}
 use Rattle.file_tables.specs.Roots.{ExchangesRoots}
 use Rattle.file_tables.specs.Rows.{InodesGood}
+use Rattle.kernel_forest.specs.Owners.{page_owners}
 use Rattle.kernel_forest.specs.Trees.{forest_of}
 use Rattle.unix_model.specs.FileCalls.{resized}
 use Rattle.unix_model.specs.Memory.{Memory}
@@ -16,7 +17,6 @@ use Rattle.unix_model.specs.Tables.{with_at}
 use Rattle.user_copy.specs.SpaceMemory.{page_of}
 use Rattle.kernel_machine.specs.Contents.{file_in}
 use Rattle.kernel_machine.specs.Machine.{machine_of, inodes_of, descriptions_of}
-use Rattle.kernel_machine.specs.Standing.{page_owners}
 use Rattle.kernel_machine.specs.Trees.{IsRootOf}
 use Rattle.kernel_machine.specs.View.{view, stored}
 use Rattle.kernel_machine.proofs.MachineLaws.{inode_written}
@@ -85,7 +85,8 @@ module _ (k0 : Kernel) (number size pages : ℕ) (inode : Inode) (good : FilesGo
   root1 some =
       let was = file_root k0 number inode good.standing file some in
       let t = was.2.some_page in
-      (was.0, was.1, memory_to_tree k0 inode.root size some whole t.0 (page_of (memory_page k0) t.1) (there_found k0 inode.root t.0 t.1 some t.2) is)
+      let now = memory_to_tree k0 inode.root size some whole t.0 (page_of (memory_page k0) t.1) (there_found k0 inode.root t.0 t.1 some t.2) is in
+      (was.0, was.1, now, was.3)
 
   seen : view (machine_of k2) ≡ with_file (view (machine_of k0)) number bytes_now
   seen =

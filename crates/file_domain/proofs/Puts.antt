@@ -1,6 +1,7 @@
 -- A piece is put into a file whose tree is there.
 use Rattle.std.proofs.Common.{◌≢◌, ℕ, ◌+◌, ◌/◌, ◌%◌, true, ◌<◌, ◌≤◌, Some, List, length, refl, ap, ◌∙◌}
 use Rattle.kn_base.specs.Rows.{overwritten}
+use Rattle.kernel_tables.specs.declared.entry.PageOwner.TheVariants.{File as FilePage}
 use Rattle.kernel_tables.specs.declared.inode.Inode.{Inode}
 use Rattle.kernel_tables.specs.Kernel.{Kernel}
 use Rattle.space_bank.specs.Bank.{BankGood}
@@ -28,13 +29,14 @@ use Rattle.file_trees.proofs.Accounting.{tree_page_left}
 
 module _ (k0 k1 : Kernel) (number place : ℕ) (bytes : List ℕ) (inode : Inode) (good : FilesGood k0) (below : number < 1024) (file : IsFileAt k0 number inode) (whole : WholeTree (tree_memory k0 inode.root))
     (some : inode.root ≢ 0) (any : 0 < length bytes) (inside : place % 4096 + length bytes ≤ 4096) (within : place + length bytes ≤ inode.length)
-    (put : PutsInTree k0 k1 inode.root place bytes) (bank : BankGood k1) (pages : AllWhole k1.bank) where
+    (put : PutsInTree k0 k1 inode.root place bytes FilePage) (bank : BankGood k1) (pages : AllWhole k1.bank) where
   abbrev was : Memory
   was = tree_memory k0 inode.root
 
   after : ChangesTree k0 k1 number inode (with_piece was place bytes)
   after =
-      changes_tree k0 k1 number inode (with_piece was place bytes) good below file some put.leaves put.here (put_whole was inode.length place bytes whole inside within)
+      changes_tree k0 k1 number inode (with_piece was place bytes) good below file some put.leaves put.owned put.here
+      (put_whole was inode.length place bytes whole inside within)
       (memory_put was inode.length place bytes whole inside within any (memory_of_file k0 number inode good.standing file whole))
       (place / 4096) _ (at-with_at was (place / 4096) (Some (record { writable = true; bytes = overwritten (tree_page was (place / 4096)) (place % 4096) bytes }))) bank pages
 

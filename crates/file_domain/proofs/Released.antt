@@ -17,8 +17,10 @@ use Rattle.space_bank.proofs.HandLaws.{handed-out, page-in_hand_unnamed}
 use Rattle.file_tables.specs.Roots.{named_by, pipe_key}
 use Rattle.forest.specs.Forest.{Forest, IsSpace}
 use Rattle.forest.specs.Walks.{map_of}
+use Rattle.kernel_forest.specs.Owners.{page_owners}
 use Rattle.kernel_forest.specs.Releases.{KeepsUnreleased}
 use Rattle.kernel_forest.specs.Trees.{forest_of}
+use Rattle.kernel_forest.proofs.Owners.{owned-in-bank, owned-inside, owners-page_given}
 use Rattle.domain.proofs.Pages.{forest_paged}
 use Rattle.seg_tree.specs.Promises.{Drops}
 use Rattle.unix_model.specs.Tables.{at, with_at}
@@ -26,11 +28,10 @@ use Rattle.user_copy.specs.SpaceMemory.{memory_by}
 use Rattle.kernel_machine.specs.Held.{AllWhole}
 use Rattle.kernel_machine.specs.Loose.{Tree, Ring, StandingBut, word_of}
 use Rattle.kernel_machine.specs.Machine.{machine_of}
-use Rattle.kernel_machine.specs.Standing.{page_owners}
 use Rattle.kernel_machine.specs.View.{memory_in}
 use Rattle.kernel_machine.proofs.DropStands.{standing_with_space_dropped}
 use Rattle.kernel_machine.proofs.LooseLaws.{nothing_loose, ring-word, tree-word}
-use Rattle.kernel_machine.proofs.OwnerLaws.{none-shares, owned-below, owned-in-bank, owned-inside, owned-no-tree, owners-set}
+use Rattle.kernel_machine.proofs.OwnerLaws.{none-shares, owned-below, owned-no-tree}
 use Rattle.kernel_machine.proofs.PageStands.{standing_without_page}
 use Rattle.kernel_machine.proofs.StandingLaws.{same-memory}
 use Rattle.forest.specs.Objects.{OfFile}
@@ -116,7 +117,7 @@ module _ (old : Kernel) (page : ℕ) (real : page ≢ 0) (loose : StandingBut ol
         ∙ forest_paged old (page - first_page old.size) (Free old.machine.free_page) in-rows none refl (none-shares (entry_at old.page_entries (page - first_page old.size)) none) refl
 
     owners-left : page_owners new ≡ with_at (page_owners old) page None
-    owners-left = ap page_owners given ∙ owners-set (first_page old.size) old.page_entries page (Free old.machine.free_page) ring_low in-rows
+    owners-left = ap page_owners given ∙ owners-page_given old page ring_low in-rows
 
     rest-left : KeepsUnreleased old new
     rest-left = subst (KeepsUnreleased old) (sym given) refl

@@ -9,11 +9,12 @@ use Rattle.kernel_tables.specs.Kernel.{Kernel, memory_page}
 use Rattle.space_bank.specs.Bank.{BankGood}
 use Rattle.file_tables.specs.Roots.{ExchangesRoots}
 use Rattle.file_tables.specs.Rows.{InodesGood}
+use Rattle.kernel_forest.specs.Owners.{page_owners}
 use Rattle.kernel_forest.specs.Trees.{forest_of}
 use Rattle.unix_model.specs.Files.{Inode as Seen, File, with_inode}
 use Rattle.unix_model.specs.State.{Unix, with_files}
 use Rattle.kernel_machine.specs.Machine.{machine_of}
-use Rattle.kernel_machine.specs.Standing.{Standing, page_owners}
+use Rattle.kernel_machine.specs.Standing.{Standing}
 use Rattle.kernel_machine.specs.Trees.{IsRootOf}
 use Rattle.kernel_machine.specs.View.{view, inode_in, inode_by, stored, files_in, inodes_in, descriptions_in}
 use Rattle.kernel_machine.proofs.SetLaws.{inode_set}

@@ -12,9 +12,10 @@ use Rattle.kernel_tables.specs.Kernel.{Kernel, inode_at, inode_count, memory_pag
 use Rattle.file_tables.specs.Rows.{IsInodeRow, IsInodeAt, IsOfKind, IsFile}
 use Rattle.unix_model.specs.Files.{Inode as Seen, File, file_bytes}
 use Rattle.unix_model.specs.Tables.{at}
+use Rattle.kernel_forest.specs.Owners.{page_owners}
 use Rattle.kernel_forest.specs.Trees.{forest_of}
 use Rattle.kernel_machine.specs.Machine.{machine_of, inodes_of, held}
-use Rattle.kernel_machine.specs.Standing.{Standing, page_owners}
+use Rattle.kernel_machine.specs.Standing.{Standing}
 use Rattle.kernel_machine.specs.Trees.{HasTree, IsRootOf}
 use Rattle.kernel_machine.specs.View.{view, inodes_in, inode_in, inode_by, stored}
 use Rattle.file_trees.specs.Trees.{IsTree}

@@ -1,9 +1,12 @@
 -- The tree of a file has another memory, which is one for the same length still.
 use Rattle.std.proofs.Common.{◌≡◌, ◌≢◌, ℕ, ◌<◌, Some, List, length, refl, ap, sym, subst, ◌∙◌}
+use Rattle.kernel_tables.specs.declared.entry.PageOwner.TheVariants.{File as FilePage}
 use Rattle.kernel_tables.specs.declared.inode.Inode.{Inode}
 use Rattle.kernel_tables.specs.declared.row.Row.{Row}
 use Rattle.kernel_tables.specs.Kernel.{Kernel, memory_page, inode_at}
 use Rattle.space_bank.specs.Bank.{BankGood}
+use Rattle.forest.specs.Walks.{map_of}
+use Rattle.kernel_forest.specs.Owners.{page_owners, PagesAreOf}
 use Rattle.kernel_forest.specs.Trees.{forest_of}
 use Rattle.unix_model.specs.Files.{File, with_inode}
 use Rattle.unix_model.specs.Memory.{Memory, Page}
@@ -15,13 +18,14 @@ use Rattle.kernel_machine.specs.Contents.{file_in}
 use Rattle.kernel_machine.specs.Held.{AllWhole}
 use Rattle.kernel_machine.specs.Machine.{KernelMachine, machine_of, inodes_of}
 use Rattle.kernel_machine.specs.Standing.{Standing, LeavesSpaces}
-use Rattle.kernel_machine.specs.Trees.{IsFileTree}
+use Rattle.kernel_machine.specs.Trees.{IsFileTree, pages_owner}
 use Rattle.kernel_machine.specs.View.{view, inodes_in, descriptions_in, files_in, stored, inode_in}
 use Rattle.kernel_machine.proofs.MemoryLaws.{tree_changed}
 use Rattle.kernel_machine.proofs.PageHolders.{file-whole}
 use Rattle.kernel_machine.proofs.PagesHeld.{file-long}
 use Rattle.kernel_machine.proofs.SpacesStand.{standing_with_tree}
 use Rattle.file_trees.specs.FileMemory.{IsFileMemory}
+use Rattle.file_trees.specs.Pieces.{StaysOwned}
 use Rattle.file_trees.specs.Trees.{tree_memory, tree_page}
 use Rattle.file_trees.proofs.Contents.{WholeTree}
 use Rattle.file_trees.proofs.FileTrees.{memory_to_tree}
@@ -32,11 +36,12 @@ use Rattle.file_domain.specs.Good.{IsFileAt}
 use Rattle.file_domain.proofs.Chains.{changes_more, file_twice}
 use Rattle.file_domain.proofs.Keeping.{accounted_file, same_promise}
 use Rattle.file_domain.proofs.Rows.{seen_row}
-use Rattle.file_domain.proofs.Seen.{has-tree, there_file, seen_file}
+use Rattle.file_domain.proofs.Seen.{file_root, has-tree, there_file, seen_file}
 use Rattle.file_trees.proofs.Views.{changes_memory, state-now}
 
 module _ (k0 k1 : Kernel) (number : ℕ) (inode : Inode) (memory : Memory) (good : FilesGood k0) (below : number < 1024) (file : IsFileAt k0 number inode)
-    (some : inode.root ≢ 0) (leaves : LeavesSpaces k0 k1 inode.root) (here : tree_memory k1 inode.root ≡ memory) (whole_now : WholeTree memory) (is : IsFileMemory memory inode.length)
+    (some : inode.root ≢ 0) (leaves : LeavesSpaces k0 k1 inode.root) (owned : StaysOwned FilePage k0 k1 inode.root)
+    (here : tree_memory k1 inode.root ≡ memory) (whole_now : WholeTree memory) (is : IsFileMemory memory inode.length)
     (page : ℕ) (found : Page) (there : at memory page ≡ Some found) (bank : BankGood k1) (pages : AllWhole k1.bank) where
   whole : WholeTree (tree_memory k0 inode.root)
   whole = file-whole k0 good.accounted inode.root
@@ -48,6 +53,10 @@ module _ (k0 k1 : Kernel) (number : ℕ) (inode : Inode) (memory : Memory) (good
   tree_now = memory_to_tree k1 inode.root inode.length some
       (λ n. ap (λ (m : Memory). length (tree_page m n)) here ∙ whole_now n) page found
       (ap (λ (m : Memory). at m page) here ∙ there) (subst (λ (m : Memory). IsFileMemory m inode.length) (sym here) is)
+
+  owned_now : PagesAreOf (pages_owner inode.kind) (page_owners k1) (map_of (forest_of k1).keys inode.root)
+  owned_now = subst (λ k. PagesAreOf (pages_owner k) (page_owners k1) (map_of (forest_of k1).keys inode.root)) (sym file.kind)
+      (owned (file_root k0 number inode good.standing file some).3)
 
   file_now : IsFileAt k1 number inode
   file_now = record { there = ap (λ rows. inode_in_rows rows) inodes_same ∙ file.there; kind = file.kind }
@@ -73,7 +82,9 @@ module _ (k0 k1 : Kernel) (number : ℕ) (inode : Inode) (memory : Memory) (good
       (file-long memory whole_now inode.length ∙ sym (file-long (tree_memory k0 inode.root) whole inode.length))
 
   standing_now : Standing k1
-  standing_now = standing_with_tree k0 k1 inode.root number inode leaves (there_file k0 number inode file) (has-tree inode.kind file.kind) refl tree_now bank pages good.standing
+  standing_now =
+      standing_with_tree k0 k1 inode.root number inode leaves (there_file k0 number inode file) (has-tree inode.kind file.kind) refl
+      tree_now owned_now bank pages good.standing
 
   state_now :
       machine_of k1

@@ -1,5 +1,6 @@
 -- The tree of a file is cut where it keeps a page, and the rest of the page where a length ends becomes zero.
 use Rattle.std.proofs.Common.{◌≡◌, ◌≢◌, ℕ, ◌-◌, ◌%◌, ◌<◌, ◌≤◌, refl, ap, sym, subst, ◌∙◌}
+use Rattle.kernel_tables.specs.declared.entry.PageOwner.TheVariants.{File as FilePage}
 use Rattle.kernel_tables.specs.declared.inode.Inode.{Inode}
 use Rattle.kernel_tables.specs.Kernel.{Kernel, memory_page}
 use Rattle.space_bank.specs.Bank.{BankGood}
@@ -39,17 +40,19 @@ module _ (k0 k1 : Kernel) (number size : ℕ) (inode : Inode) (good : FilesGood 
   -- pages were given back from a first one on, below which one is left
   pub cut_changes : (first next : ℕ) → MapsBelow k0 inode.root first → CutsTree k0 k1 inode.root first next → ChangesTree k0 k1 number inode (without_pages (tree_memory k0 inode.root) first next)
   cut_changes first next left cut =
-      changes_tree k0 k1 number inode (without_pages (tree_memory k0 inode.root) first next) good below file some cut.leaves cut.here
+      changes_tree k0 k1 number inode (without_pages (tree_memory k0 inode.root) first next) good below file some cut.leaves (cut.owned FilePage) cut.here
       (cut_whole (tree_memory k0 inode.root) first next whole) (memory_cut (tree_memory k0 inode.root) first next whole inode.length memory)
       left.0 (page_of (memory_page k0) left.2)
       (before_cut (tree_memory k0 inode.root) first next left.0 left.1 ∙ there_found k0 inode.root left.0 left.2 some left.3) bank pages
 
   -- the rest of a page was cleared
-  pub clear_changes : size ≤ inode.length → size % 4096 ≢ 0 → ClearsPiece k0 k1 inode.root size (4096 - size % 4096) → ChangesTree k0 k1 number inode (without_rest (tree_memory k0 inode.root) size)
+  pub clear_changes : size ≤ inode.length → size % 4096 ≢ 0 → ClearsPiece k0 k1 inode.root size (4096 - size % 4096) FilePage
+      → ChangesTree k0 k1 number inode (without_rest (tree_memory k0 inode.root) size)
   clear_changes order odd cleared =
       let t = (file_root k0 number inode good.standing file some).2.some_page in
       let stays = rest_stays (tree_memory k0 inode.root) size whole t.0 (page_of (memory_page k0) t.1) (there_found k0 inode.root t.0 t.1 some t.2) in
-      changes_tree k0 k1 number inode (without_rest (tree_memory k0 inode.root) size) good below file some cleared.leaves (cleared.here ∙ sym (rest_some (tree_memory k0 inode.root) size whole odd))
+      changes_tree k0 k1 number inode (without_rest (tree_memory k0 inode.root) size) good below file some cleared.leaves cleared.owned
+      (cleared.here ∙ sym (rest_some (tree_memory k0 inode.root) size whole odd))
       (rest_whole (tree_memory k0 inode.root) size whole) (memory_rest (tree_memory k0 inode.root) size whole inode.length order memory) t.0 stays.0 stays.1 bank pages
 
 -- where a length ends with a page, there is no rest
@@ -60,7 +63,8 @@ clear_nothing kernel number size inode good below file some even =
     let same = rest_none (tree_memory kernel inode.root) size whole even in
     let t = (file_root kernel number inode good.standing file some).2.some_page in
     subst (ChangesTree kernel kernel number inode) (sym same)
-    (changes_tree kernel kernel number inode (tree_memory kernel inode.root) good below file some (leaves_same kernel inode.root) refl whole (memory_of_file kernel number inode good.standing file whole)
+    (changes_tree kernel kernel number inode (tree_memory kernel inode.root) good below file some (leaves_same kernel inode.root) (λ was. was) refl whole
+    (memory_of_file kernel number inode good.standing file whole)
     t.0 (page_of (memory_page kernel) t.1) (there_found kernel inode.root t.0 t.1 some t.2) good.standing.bank good.standing.whole)
 
 -- ---- the steps of a cut, one after another

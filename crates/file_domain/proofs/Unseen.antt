@@ -15,12 +15,12 @@ use Rattle.unix_model.specs.Tables.{at}
 use Rattle.forest.specs.Calls.{DropsSpace}
 use Rattle.forest.specs.Forest.{IsSpace}
 use Rattle.forest.specs.Objects.{OfFile, OfProcess}
+use Rattle.kernel_forest.specs.Owners.{page_owners}
 use Rattle.kernel_forest.specs.Trees.{forest_of, TreesGood}
 use Rattle.seg_tree.specs.Promises.{Drops}
 use Rattle.domain.specs.Domains.{domains}
 use Rattle.kernel_machine.specs.Loose.{Loose, Nothing, Space, Tree, Ring, IsTaken, StandingBut}
 use Rattle.kernel_machine.specs.Machine.{KernelMachine, machine_of, inodes_of}
-use Rattle.kernel_machine.specs.Standing.{page_owners}
 use Rattle.kernel_machine.specs.Trees.{HasTree}
 use Rattle.kernel_machine.specs.View.{view, memory_in, process_in, processes_in, inode_in, inodes_in, descriptions_in}
 use Rattle.kernel_machine.proofs.LooseLaws.{ring-word, tree-word}

@@ -9,6 +9,7 @@ use Rattle.kernel_tables.specs.Rows.{KeepsRows, entry_at, fixed_rows}
 use Rattle.space_bank.specs.Bank.{IsTakenOnce}
 use Rattle.forest.specs.Forest.{Forest}
 use Rattle.forest.specs.Objects.{PageObject}
+use Rattle.kernel_forest.specs.Owners.{page_owners}
 use Rattle.kernel_forest.specs.Releases.{KeepsUnreleased}
 use Rattle.kernel_forest.specs.Trees.{forest_of}
 use Rattle.unix_model.specs.Files.{inode_pages, links, with_inode_dropped}
@@ -17,7 +18,7 @@ use Rattle.unix_model.specs.State.{with_files}
 use Rattle.unix_model.specs.Tables.{at, with_at, count_below}
 use Rattle.kernel_machine.specs.Counts.{opens}
 use Rattle.kernel_machine.specs.Machine.{machine_of}
-use Rattle.kernel_machine.specs.Standing.{Standing, page_owners}
+use Rattle.kernel_machine.specs.Standing.{Standing}
 use Rattle.kernel_machine.specs.Trees.{HasTree}
 use Rattle.kernel_machine.specs.View.{view}
 use Rattle.file_trees.specs.Good.{FilesGood}

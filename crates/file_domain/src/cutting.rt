@@ -16,6 +16,7 @@ ghost use Rattle.file_domain.specs.Cutting.{ChangesTree, MapsBelow, MapsNoneBelo
 use crate::growing::pages_of;
 use file_tables::{Inode, set_inode};
 use file_trees::{clear_piece, cut_pages, maps_below};
+use kernel_tables::PageOwner;
 use kn_base::{NodeId, Store};
 use seg_tree::{Space, drop_space};
 use space_bank::unpromise;
@@ -47,7 +48,8 @@ fn clear_rest<T: Store>(store: &mut T, file: u32, inode: Inode, length: u32)
 {
     let used = (length % 4096) as u16;
     if used != 0 {
-        clear_piece(store, Space(NodeId(inode.root)), length, 4096 - used);
+        let tree = Space(NodeId(inode.root));
+        clear_piece(store, tree, length, 4096 - used, PageOwner::File);
     }
 }
 

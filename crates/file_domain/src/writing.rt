@@ -10,7 +10,7 @@ ghost use Rattle.file_domain.specs.Effects.{PutsAt};
 
 use file_tables::{Inode, inode_of, set_inode};
 use file_trees::put_piece;
-use kernel_tables::NodeOwner;
+use kernel_tables::{NodeOwner, PageOwner};
 use kn_base::{Key, NodeId, Store};
 use seg_tree::{Space, new_space};
 
@@ -26,7 +26,7 @@ fn put_there<T: Store>(store: &mut T, file: u32, inode: Inode, at: u32, from: &[
     ensures put { PutsAt (kernel_of (T.memory store.old)) (kernel_of (T.memory store.new)) file at from.now }
     ensures keeps { T.keeps store.old store.new }
 {
-    put_piece(store, Space(NodeId(inode.root)), at, from);
+    put_piece(store, Space(NodeId(inode.root)), at, from, PageOwner::File);
 }
 
 // Writes the first bytes of a file that has no tree: it gets one.
@@ -42,7 +42,7 @@ fn put_first<T: Store>(store: &mut T, file: u32, inode: Inode, at: u32, from: &[
     ensures keeps { T.keeps store.old store.new }
 {
     let tree = new_space(store, NodeOwner::FileTree, Key::Null);
-    put_piece(store, tree, at, from);
+    put_piece(store, tree, at, from, PageOwner::File);
     let root = tree.0.0;
     set_inode(store, file, Inode { root, ..inode });
 }

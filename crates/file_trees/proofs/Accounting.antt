@@ -8,6 +8,7 @@ use Rattle.kernel_tables.specs.Kernel.{Kernel, memory_page}
 use Rattle.forest.specs.Calls.{IsOwn}
 use Rattle.forest.specs.Forest.{Forest}
 use Rattle.forest.specs.Walks.{Mapping}
+use Rattle.kernel_forest.specs.Owners.{page_owners}
 use Rattle.kernel_forest.specs.Trees.{forest_of}
 use Rattle.unix_model.specs.Numbers.{pages_of}
 use Rattle.unix_model.specs.Rules.{EndsAt}
@@ -16,7 +17,7 @@ use Rattle.unix_model.proofs.TableLaws.{at-with_at-other}
 use Rattle.domain.specs.Domains.{domains, roots}
 use Rattle.kernel_machine.specs.Bounds.{Accounted}
 use Rattle.kernel_machine.specs.Machine.{machine_of, inodes_of}
-use Rattle.kernel_machine.specs.Standing.{Standing, page_owners}
+use Rattle.kernel_machine.specs.Standing.{Standing}
 use Rattle.kernel_machine.specs.Trees.{HasTree, IsFileTree, IsRootOf}
 use Rattle.kernel_machine.proofs.MemoryLaws.{tree-of}
 use Rattle.kernel_machine.proofs.NodeBounds.{nodes_accounted}

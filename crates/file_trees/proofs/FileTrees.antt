@@ -5,6 +5,7 @@ use Rattle.std.specs.Prelude.{option_map}
 use Rattle.std.proofs.lemmas.Bool.{cases_eq, cases_lt, eqb-true, eq-eqb}
 use Rattle.std.proofs.lemmas.List.{get_or-drop}
 use Rattle.kn_base.specs.Rows.{overwritten}
+use Rattle.kernel_tables.specs.declared.entry.PageOwner.{PageOwner}
 use Rattle.kernel_tables.specs.Kernel.{Kernel, memory_page}
 use Rattle.unix_model.specs.Memory.{Memory, Page}
 use Rattle.unix_model.specs.Numbers.{pages_of}
@@ -141,8 +142,9 @@ tree_grown kernel root size more some whole order tree =
     (memory_grown (tree_memory kernel root) size more (tree_to_memory kernel root size some whole tree) order)
 
 -- a piece was put into a tree
-module _ (old new : Kernel) (root size place : ℕ) (bytes : List ℕ) (whole : WholeTree (tree_memory old root)) (inside : place % 4096 + length bytes ≤ 4096) (within : place + length bytes ≤ size)
-    (put : PutsInTree old new root place bytes) where
+module _ (old new : Kernel) (root size place : ℕ) (bytes : List ℕ) (owner : PageOwner) (whole : WholeTree (tree_memory old root))
+    (inside : place % 4096 + length bytes ≤ 4096) (within : place + length bytes ≤ size)
+    (put : PutsInTree old new root place bytes owner) where
   whole_now : WholeTree (tree_memory new root)
   whole_now n = ap (λ (m : Memory). length (tree_page m n)) put.here ∙ put_whole (tree_memory old root) size place bytes whole inside within n
 

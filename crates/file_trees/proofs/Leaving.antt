@@ -11,6 +11,7 @@ leaves_same kernel space = record {
   spaces = λ other. (λ was. was, λ was. was);
   roots = λ other is. record { was = is; owner = refl; keeper = refl };
   memories = λ other is apart. refl;
+  owned = λ other whose is apart was. was;
   trees = λ outside was. was;
   inside = λ outside was within. within;
   filled = λ was. was;
@@ -24,6 +25,7 @@ leaves_trans k0 k1 k2 space a b = record {
   spaces = λ other. (λ was. (b.spaces other).0 ((a.spaces other).0 was), λ now. (a.spaces other).1 ((b.spaces other).1 now));
   roots = λ other now. let last = b.roots other now in root_trans (forest_of k0) (forest_of k1) (forest_of k2) [] [] other (a.roots other last.was) last;
   memories = λ other was apart. b.memories other ((a.spaces other).0 was) apart ∙ a.memories other was apart;
+  owned = λ other whose was apart held. b.owned other whose ((a.spaces other).0 was) apart (a.owned other whose was apart held);
   trees = λ outside was. b.trees outside (a.trees outside was);
   inside = λ outside was within. b.inside outside (a.trees outside was) (a.inside outside was within);
   filled = λ was. b.filled (a.filled was);

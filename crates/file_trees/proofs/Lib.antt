@@ -1,7 +1,7 @@
 pub mod Contents
 pub mod Pages
 pub mod Leaving
-pub mod Room
+pub mod Owned
 pub mod Pieces
 pub mod Cuts
 pub mod FileMemory

@@ -3,6 +3,7 @@ use Rattle.std.proofs.Common.{◌≡◌, ◌≢◌, ℕ, ◌+◌, ◌/◌, ◌%�
 use Rattle.std.specs.Prelude.{option_map}
 use Rattle.kn_base.specs.Memory.{zero_page}
 use Rattle.kn_base.specs.Rows.{overwritten}
+use Rattle.kernel_tables.specs.declared.entry.PageOwner.{PageOwner}
 use Rattle.kernel_tables.specs.Kernel.{Kernel, memory_page}
 use Rattle.space_bank.specs.Bank.{BankGood}
 use Rattle.space_bank.specs.Shares.{Outside}
@@ -13,23 +14,24 @@ use Rattle.unix_model.proofs.TableLaws.{at-with_at, with_at-same, with_at-twice}
 use Rattle.forest.specs.Calls.{IsOwn}
 use Rattle.forest.specs.Forest.{IsSpace}
 use Rattle.forest.specs.Walks.{Mapping, map_of}
+use Rattle.kernel_forest.specs.Owners.{page_owners}
 use Rattle.kernel_forest.specs.Trees.{forest_of, TreesGood}
 use Rattle.kernel_forest.proofs.Moves.{node_taken}
+use Rattle.kernel_forest.proofs.Owners.{pages-kept}
 use Rattle.seg_tree.specs.Promises.{Remaps}
 use Rattle.user_copy.specs.SpaceMemory.{memory_by, page_of, space_memory}
-use Rattle.user_copy.specs.Writing.{CountsPage, is_own, is_other, NotOwn, pages_touched, PutsBytes}
-use Rattle.user_copy.proofs.Across.{turn_own, own_turn, one_counted, count_one, touched_one}
+use Rattle.user_copy.specs.Writing.{PutsPiece}
 use Rattle.user_copy.proofs.Bytes.{bytes_put, all_may}
 use Rattle.user_copy.proofs.Pages.{memory_found}
 use Rattle.user_copy.proofs.Tests.{writable_found}
-use Rattle.kernel_machine.proofs.SpacesStand.{remap_leaves, put_leaves}
+use Rattle.kernel_machine.proofs.SpacesStand.{remap_leaves, piece_leaves}
 use Rattle.kernel_machine.proofs.ViewLaws.{mapped_changed}
 use Rattle.file_trees.specs.Trees.{tree_memory, tree_page}
 use Rattle.file_trees.specs.Pieces.{MapsPage, PutsInTree, with_piece}
 use Rattle.file_trees.proofs.Contents.{WholeTree}
 use Rattle.file_trees.proofs.Leaving.{leaves_same, leaves_trans}
+use Rattle.file_trees.proofs.Owned.{owned_with}
 use Rattle.file_trees.proofs.Pages.{tree_is_space, page_found, page_none}
-use Rattle.file_trees.proofs.Room.{taken_fit}
 
 -- no space is node 0
 pub space_some : (kernel : Kernel) (space : ℕ) → BankGood kernel → IsSpace (forest_of kernel) [] space → space ≢ 0
@@ -45,6 +47,10 @@ memory_with bytes map page found = mapped_changed (page_of bytes) map page found
 
 -- ---- a page is there
 
+abbrev page_or : Option Mapping → ℕ
+page_or None = 0
+page_or (Some found) = found.page
+
 module _ (kernel : Kernel) (tree page : ℕ) (good : BankGood kernel) (is : IsSpace (forest_of kernel) [] tree) where
   -- it was there before
   pub maps_found : (found : Mapping) → map_of (forest_of kernel).keys tree page ≡ Some found → found.writable ≡ true → MapsPage kernel kernel tree page
@@ -56,6 +62,7 @@ module _ (kernel : Kernel) (tree page : ℕ) (good : BankGood kernel) (is : IsSp
       ∙ ap (λ (b : List ℕ). let p : Page = record { writable = true; bytes = b } in p) (sym (page_found kernel tree page found (space_some kernel tree good is) e)) in
       record {
         leaves = leaves_same kernel tree;
+        owned = λ whose was. was;
         here = sym (with_at-same (tree_memory kernel tree) page (Some (record { writable = true; bytes = tree_page (tree_memory kernel tree) page })) (there ∙ ap (λ (p : Page). Some p) page_is));
         own = λ other own. own;
         still = λ other own. own;
@@ -63,7 +70,7 @@ module _ (kernel : Kernel) (tree page : ℕ) (good : BankGood kernel) (is : IsSp
         most = omega arith;
       }
 
-  -- the page of zeros was mapped
+  -- the page of zeros was mapped, which is nobody's
   pub maps_zero : (new : Kernel) (outside : Outside) → TreesGood kernel outside [] → BankGood new → kernel.page_zero ≡ zero_page → map_of (forest_of kernel).keys tree page ≡ None
       → Remaps kernel new tree 4 (with_at (map_of (forest_of kernel).keys tree) page (Some (record { writable = true; page = 0 })))
       → MapsPage kernel new tree page
@@ -78,6 +85,11 @@ module _ (kernel : Kernel) (tree page : ℕ) (good : BankGood kernel) (is : IsSp
       = ap (λ (b : List ℕ). let p : Page = record { writable = true; bytes = b } in p) (zeros ∙ sym (page_none kernel tree page some none)) in
       record {
         leaves = remap_leaves kernel new tree 4 (with_at (map_of (forest_of kernel).keys tree) page (Some (record { writable = true; page = 0 }))) outside trees remaps;
+        owned = λ whose was.
+            pages-kept whose kernel new (with_at (map_of (forest_of kernel).keys tree) page (Some (record { writable = true; page = 0 })))
+            (map_of (forest_of new).keys tree) changes.here remaps.owners_now
+            (owned_with whose (page_owners kernel) (map_of (forest_of kernel).keys tree) page (Some (record { writable = true; page = 0 }))
+            (λ mapping e real. absurd (real (sym (ap page_or e)))) was);
         here = tree_is_space new tree (space_some new tree good_new changes.stays)
             ∙ ap (λ (bytes : ℕ → List ℕ). memory_by bytes (map_of (forest_of new).keys tree)) pages_same
             ∙ ap (λ (map : ℕ → Option Mapping). memory_by (memory_page kernel) map) changes.here
@@ -92,15 +104,11 @@ module _ (kernel : Kernel) (tree page : ℕ) (good : BankGood kernel) (is : IsSp
         pages = ap (λ (k : Kernel). k.machine.pages_taken) remaps.rest;
         most = remaps.most;
       }
-    where
-      page_or : Option Mapping → ℕ
-      page_or None = 0
-      page_or (Some found) = found.page
 
 -- ---- bytes are put
 
 module _ (k0 k1 k2 : Kernel) (tree place : ℕ) (bytes : List ℕ) (good : BankGood k0) (good1 : BankGood k1) (good2 : BankGood k2) (is : IsSpace (forest_of k0) [] tree)
-    (whole : WholeTree (tree_memory k0 tree)) (some : 0 < length bytes) (inside : place % 4096 + length bytes ≤ 4096) (maps : MapsPage k0 k1 tree (place / 4096)) where
+    (whole : WholeTree (tree_memory k0 tree)) (inside : place % 4096 + length bytes ≤ 4096) (maps : MapsPage k0 k1 tree (place / 4096)) where
   is1 : IsSpace (forest_of k1) [] tree
   is1 = (maps.leaves.spaces tree).0 is
 
@@ -118,28 +126,29 @@ module _ (k0 k1 k2 : Kernel) (tree place : ℕ) (bytes : List ℕ) (good : BankG
       let number : (place + i) / 4096 ≡ place / 4096 = omega arith in
       sym (writable_found (space_memory k1 tree) (place + i) (place / 4096) page there number))
 
+  -- what was own there is what is mapped there now
+  still_own : (found : Mapping) → map_of (forest_of k1).keys tree (place / 4096) ≡ Some found
+      → (other : Mapping) → IsOwn (forest_of k0) tree (place / 4096) other
+      → IsOwn (forest_of k1) tree (place / 4096) found
+  still_own found e other own =
+      let now = maps.still other own in
+      let same : Some other ≡ Some found = sym now.mapped ∙ e in
+      let it : other ≡ found = cc in
+      subst (IsOwn (forest_of k1) tree (place / 4096)) it now
+
   -- there is room for the page
   pub room_put : (((found : Mapping) → IsOwn (forest_of k0) tree (place / 4096) found → ⊥) → k0.machine.pages_taken < k0.size)
-      → (taken : ℕ) → NotOwn (forest_of k1) tree (place / 4096) (pages_touched place (length bytes)) taken → k1.machine.pages_taken + taken ≤ k1.size
-  room_put room taken counts = go size (one_counted (forest_of k1) tree (place / 4096) taken (subst (λ n. NotOwn (forest_of k1) tree (place / 4096) n taken) (touched_one place (length bytes) some inside) counts))
-    where
-      size : k1.size ≡ k0.size
-      size = ap (λ (k : Kernel). k.size) maps.leaves.rest
+      → (found : Mapping) → map_of (forest_of k1).keys tree (place / 4096) ≡ Some found
+      → (IsOwn (forest_of k1) tree (place / 4096) found → ⊥) → k1.machine.pages_taken < k1.size
+  room_put room found e shared =
+      let size : k1.size ≡ k0.size = ap (λ (k : Kernel). k.size) maps.leaves.rest in
+      let less : k0.machine.pages_taken < k0.size = room (λ other own. shared (still_own found e other own)) in
+      let pages = maps.pages in
+      omega arith
 
-      go : k1.size ≡ k0.size → CountsPage (forest_of k1) tree (place / 4096) (place / 4096) 0 taken → k1.machine.pages_taken + taken ≤ k1.size
-      go size (is_own found turn e) = let fit = taken_fit k1 good1 in omega arith
-      go size (is_other found e shared n) =
-          let less : k0.machine.pages_taken < k0.size = room (λ other own.
-          let now = maps.still other own in
-          let same : Some other ≡ Some found = sym now.mapped ∙ e in
-          let it : other ≡ found = cc in
-          shared (own_turn (forest_of k1) tree (place / 4096) found (subst (IsOwn (forest_of k1) tree (place / 4096)) it now))) in
-          let pages = maps.pages in
-          omega arith
-
-  module _ (put : PutsBytes k1 k2 tree place bytes) where
+  module _ (owner : PageOwner) (put : PutsPiece k1 k2 tree place bytes owner) where
     is2 : IsSpace (forest_of k2) [] tree
-    is2 = (put.spaces tree).0 is1
+    is2 = (put.owns.spaces tree).0 is1
 
     here_now : tree_memory k2 tree ≡ with_piece (tree_memory k0 tree) place bytes
     here_now =
@@ -150,24 +159,13 @@ module _ (k0 k1 k2 : Kernel) (tree place : ℕ) (bytes : List ℕ) (good : BankG
         (sym (tree_is_space k1 tree (space_some k1 tree good1 is1)) ∙ maps.here)
         ∙ with_at-twice (tree_memory k0 tree) (place / 4096) (Some page) (Some (record page { bytes = overwritten page.bytes (place % 4096) bytes }))
 
-    counted : (taken : ℕ) → CountsPage (forest_of k1) tree (place / 4096) (place / 4096) 0 taken → k2.machine.pages_taken ≡ k0.machine.pages_taken + taken
-    counted taken counts =
-        put.taken taken (subst (λ n. NotOwn (forest_of k1) tree (place / 4096) n taken) (sym (touched_one place (length bytes) some inside)) (count_one (forest_of k1) tree (place / 4096) taken counts))
-        ∙ ap (λ n. n + taken) maps.pages
-
-    pub puts_in_tree : PutsInTree k0 k2 tree place bytes
+    pub puts_in_tree : PutsInTree k0 k2 tree place bytes owner
     puts_in_tree = record {
-      leaves = leaves_trans k0 k1 k2 tree maps.leaves (put_leaves k1 k2 tree place bytes put);
+      leaves = leaves_trans k0 k1 k2 tree maps.leaves (piece_leaves k1 k2 tree place bytes owner put);
+      owned = λ was. put.owned (maps.owned owner was);
       here = here_now;
-      own = put.own (place / 4096) (some, omega arith, omega arith);
-      kept = λ found own. let n = counted 0 (is_own found (own_turn (forest_of k1) tree (place / 4096) found (maps.still found own)) refl) in omega arith;
-      taken = λ shared.
-          let first = put.counted in
-          taken_one shared first.0 (one_counted (forest_of k1) tree (place / 4096) first.0 (subst (λ n. NotOwn (forest_of k1) tree (place / 4096) n first.0) (touched_one place (length bytes) some inside) first.1));
+      own = (put.result, put.owns.own);
+      kept = λ found own. put.kept (still_own put.found put.mapped found own) ∙ maps.pages;
+      taken = λ shared. put.copied (λ own. shared put.found (maps.own put.found own)) ∙ ap (λ n. n + 1) maps.pages;
       most = let m = maps.most in let n = put.most in omega arith;
     }
-      where
-        taken_one : ((found : Mapping) → IsOwn (forest_of k0) tree (place / 4096) found → ⊥) → (taken : ℕ) → CountsPage (forest_of k1) tree (place / 4096) (place / 4096) 0 taken
-            → k2.machine.pages_taken ≡ k0.machine.pages_taken + 1
-        taken_one shared taken (is_own found turn e) = absurd (shared found (maps.own found (turn_own (forest_of k1) tree (place / 4096) found turn)))
-        taken_one shared taken (is_other found e other n) = counted taken (is_other found e other n) ∙ ap (λ k. k0.machine.pages_taken + k) n

@@ -16,8 +16,9 @@ use Rattle.space_bank.specs.Laws.{and_outside}
 use Rattle.forest.specs.Calls.{AddsSpace}
 use Rattle.forest.specs.Forest.{Forest, IsSpace}
 use Rattle.forest.specs.Objects.{NodeObject, OfFile}
-use Rattle.forest.specs.Walks.{Mapping, space_key}
+use Rattle.forest.specs.Walks.{Mapping, map_of, space_key}
 use Rattle.kernel_forest.specs.Apart.{KeepsApart}
+use Rattle.kernel_forest.specs.Owners.{page_owners, PagesAreOf}
 use Rattle.kernel_forest.specs.Releases.{KeepsUnreleased}
 use Rattle.kernel_forest.specs.Trees.{forest_of, TreesGood}
 use Rattle.kernel_forest.proofs.GivingNodes.{unreleased}
@@ -34,8 +35,8 @@ use Rattle.kernel_machine.specs.Held.{AllWhole}
 use Rattle.kernel_machine.specs.Laws.{ChangesMemory}
 use Rattle.kernel_machine.specs.Loose.{Nothing, Tree, StandingBut, root_of, word_of}
 use Rattle.kernel_machine.specs.Machine.{machine_of, inodes_of}
-use Rattle.kernel_machine.specs.Standing.{LeavesSpaces, Standing, page_owners}
-use Rattle.kernel_machine.specs.Trees.{HasTree, IsFileTree, IsRootOf}
+use Rattle.kernel_machine.specs.Standing.{LeavesSpaces, Standing}
+use Rattle.kernel_machine.specs.Trees.{HasTree, IsFileTree, IsRootOf, pages_owner}
 use Rattle.kernel_machine.specs.View.{view, files_in, inode_in, memory_in}
 use Rattle.kernel_machine.proofs.AddStands.{standing_with_space}
 use Rattle.kernel_machine.proofs.LooseLaws.{nothing_loose, tree-word}
@@ -47,7 +48,9 @@ use Rattle.file_trees.proofs.Views.{state-now, bytes-apart}
 
 -- what a root is, by the kind
 root-is : (forest : Forest) (bytes : ℕ → List ℕ) (owner : ℕ → Option PageOwner) (row : Inode) (kind : InodeKind) → HasTree kind
-    → IsSpace forest [] row.root × (forest.owner (NodeObject row.root) ≡ Some OfFile) × IsFileTree forest.keys bytes row.root row.length → IsRootOf forest bytes owner row kind
+    → IsSpace forest [] row.root × (forest.owner (NodeObject row.root) ≡ Some OfFile) × IsFileTree forest.keys bytes row.root row.length
+    × PagesAreOf (pages_owner kind) owner (map_of forest.keys row.root)
+    → IsRootOf forest bytes owner row kind
 root-is forest bytes owner row File tree is = λ some. is
 root-is forest bytes owner row Dir tree is = λ some. is
 root-is forest bytes owner row Pipe tree is = absurd tree
@@ -90,15 +93,19 @@ module _ (old mid k2 : Kernel) (space number : ℕ) (inode row : Inode) (map : �
   row-tree : HasTree row.kind
   row-tree = subst HasTree (sym kind) tree
 
-  pub root_stands : BankGood mid → BankGood k2 → AllWhole k2.bank → ExchangesRoots k2 now number (Used row) → InodesGood now.inodes → IsFileTree (forest_of k2).keys (memory_page k2) space row.length → Standing now
-  root_stands first bank all exchanges good file =
+  pub root_stands : BankGood mid → BankGood k2 → AllWhole k2.bank → ExchangesRoots k2 now number (Used row) → InodesGood now.inodes
+      → IsFileTree (forest_of k2).keys (memory_page k2) space row.length
+      → PagesAreOf (pages_owner row.kind) (page_owners k2) (map_of (forest_of k2).keys space) → Standing now
+  root_stands first bank all exchanges good file owned =
       let but : StandingBut k2 (Tree space) = standing_with_loose mid k2 space OfFile leaves bank all (standing_with_space old mid space OfFile (Some OfFile) Null map adds refl refl first standing) in
       let word : word_of row.kind row.root ≡ Tree space = ap (word_of row.kind) root ∙ tree-word row.kind space row-tree some in
       (nothing_loose now).1 (subst (StandingBut now) had-none
       (standing_with_root k2 now number (Used row) inside-now refl exchanges good
       (root-is (forest_of k2) (memory_page k2) (page_owners k2) row row.kind row-tree
-      (subst (λ n. IsSpace (forest_of k2) [] n × ((forest_of k2).owner (NodeObject n) ≡ Some OfFile) × IsFileTree (forest_of k2).keys (memory_page k2) n row.length) (sym root)
-      (but.is_loose.taken.0, but.is_loose.taken.1, file)))
+      (subst (λ n. IsSpace (forest_of k2) [] n × ((forest_of k2).owner (NodeObject n) ≡ Some OfFile)
+      × IsFileTree (forest_of k2).keys (memory_page k2) n row.length
+      × PagesAreOf (pages_owner row.kind) (page_owners k2) (map_of (forest_of k2).keys n)) (sym root)
+      (but.is_loose.taken.0, but.is_loose.taken.1, file, owned)))
       (subst (StandingBut k2) (sym word) but)))
 
   -- ---- the flat state

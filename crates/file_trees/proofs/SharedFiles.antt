@@ -34,23 +34,11 @@ use Rattle.kernel_machine.proofs.HolesLeft.{hole_is_left}
 use Rattle.kernel_machine.proofs.PagesHeld.{maps, kind-has, inode-has, inode-few, file-pages, places-pages}
 use Rattle.kernel_machine.proofs.PageHolders.{slots-have, inodes-have, inode-below, file-whole, mapped-has, space-real}
 use Rattle.kernel_machine.proofs.PageBounds.{is_taken, taken-counted, taken-has, untaken, slots-few, whole-row}
+use Rattle.kernel_machine.proofs.SharedPages.{but-label, label-apart, not-but}
 
 -- a tree maps a page at another page number than this one, below a limit
 unfoldable pub maps-less : (ℕ → Key) → ℕ → ℕ → ℕ → ℕ → Bool
 maps-less keys space skip limit page = any_below (λ number. not (number == skip) && is_label page (shared_page keys (space, number))) limit
-
-and-right : (a b : Bool) → (a && b) ≡ true → b ≡ true
-and-right true b e = e
-and-right false b e = absurd (cc)
-
-not-but : (b : Bool) → b ≡ true → (c : Bool) → (not b && c) ≡ false
-not-but b e c = rw e refl
-
-less-label : (keys : ℕ → Key) (space skip first size number : ℕ) → count_below (λ n. not (number == skip) && is_label (first + n) (shared_page keys (space, number))) size
-    ≤ count_below (λ n. is_label (first + n) (shared_page keys (space, number))) size
-less-label keys space skip first size number =
-    count-less (λ n. not (number == skip) && is_label (first + n) (shared_page keys (space, number))) (λ n. is_label (first + n) (shared_page keys (space, number))) size
-    (λ n below h. and-right (not (number == skip)) (is_label (first + n) (shared_page keys (space, number))) h)
 
 less-few : (keys : ℕ → Key) (first size space skip limit : ℕ) → skip < limit → count_below (λ n. maps-less keys space skip limit (first + n)) size + 1 ≤ limit
 unfolding maps-less
@@ -59,14 +47,11 @@ less-few keys first size space skip limit below =
     let zero_here = count-never (λ n. not (skip == skip) && is_label (first + n) (shared_page keys (space, skip))) size
     (λ n under. not-but (skip == skip) (eq-eqb skip skip refl) (is_label (first + n) (shared_page keys (space, skip)))) in
     let each = sum-below-more (λ number. count_below (λ n. not (number == skip) && is_label (first + n) (shared_page keys (space, number))) size) (λ number. 1) limit skip below (omega arith)
-    (λ number under. let few = less-label keys space skip first size number in let one = count-label first (shared_page keys (space, number)) size in omega arith) in
+    (λ number under. let few = but-label keys space skip first size number in let one = count-label first (shared_page keys (space, number)) size in omega arith) in
     let ones = sum-at-most-one (λ number. 1) limit (λ number under. omega arith) in
     omega arith
 
 -- of another page it makes no difference
-label-apart : (page other : ℕ) (label : Option ℕ) → label ≡ Some other → page ≢ other → is_label page label ≡ false
-label-apart page other label e apart = ap (is_label page) e ∙ ne_eqb other page (λ s. apart (sym s))
-
 less-same : (keys : ℕ → Key) (space skip limit other page : ℕ) → shared_page keys (space, skip) ≡ Some other → page ≢ other → maps-less keys space skip limit page ≡ maps keys (Some space) limit page
 unfolding maps-less maps
 less-same keys space skip limit other page is apart =

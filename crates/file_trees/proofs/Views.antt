@@ -1,6 +1,6 @@
 -- A call on the tree of a file or directory: what of the machine it changes.
-use Rattle.std.proofs.Common.{◌≡◌, ◌≢◌, ℕ, ◌-◌, false, nat_lt, true, Some, None, refl, ap, ◌∙◌, arith, ⊎_elim}
-use Rattle.std.proofs.lemmas.Bool.{cases_Bool, ne_eqb}
+use Rattle.std.proofs.Common.{◌≡◌, ◌≢◌, ℕ, ◌-◌, Some, None, refl, ap, ◌∙◌, arith}
+use Rattle.std.proofs.lemmas.Bool.{ne_eqb}
 use Rattle.kernel_tables.specs.declared.entry.Entry.{Entry}
 use Rattle.kernel_tables.specs.declared.entry.Entry.TheVariants.{Free, Taken, Fixed, Unspelled}
 use Rattle.kernel_tables.specs.declared.entry.PageOwner.{PageOwner}
@@ -9,29 +9,23 @@ use Rattle.kernel_tables.specs.declared.machine.Machine.{Machine as Words}
 use Rattle.kernel_tables.specs.Kernel.{Kernel, first_page, memory_page}
 use Rattle.kernel_tables.specs.Rows.{entry_at, KeepsRows}
 use Rattle.kernel_forest.specs.Apart.{KeepsApart}
+use Rattle.kernel_forest.specs.Owners.{owner_in, page_owners}
 use Rattle.kernel_forest.specs.Releases.{KeepsUnreleased}
 use Rattle.kernel_forest.specs.Trees.{forest_of, page_tree}
 use Rattle.kernel_forest.proofs.ApartLaws.{page_stays_apart}
+use Rattle.kernel_forest.proofs.Owners.{owned-entry, owned-in-bank}
 use Rattle.unix_model.specs.Tables.{at}
 use Rattle.kernel_machine.specs.Laws.{ChangesMemory}
-use Rattle.kernel_machine.specs.Machine.{KernelMachine, machine_of, owner_in, page_owner_of}
-use Rattle.kernel_machine.specs.Standing.{LeavesSpaces, page_owners}
+use Rattle.kernel_machine.specs.Machine.{KernelMachine, machine_of}
+use Rattle.kernel_machine.specs.Standing.{LeavesSpaces}
 use Rattle.kernel_machine.specs.View.{memory_in}
 use Rattle.kernel_machine.proofs.MachineLaws.{spaces_changed}
-use Rattle.kernel_machine.proofs.OwnerLaws.{owned-in-bank}
 
 is-taken : (entry : Entry PageOwner) (owner : PageOwner) → owner_in entry ≡ Some owner → (count : ℕ) × (entry ≡ Taken owner count)
 is-taken (Free next) owner e = cc
 is-taken (Taken held count) owner e = (count, (let same : held ≡ owner = cc in ap (λ o. Taken o count) same))
 is-taken Fixed owner e = cc
 is-taken Unspelled owner e = cc
-
-owner-entry : (kernel : Kernel) (page : ℕ) (owner : PageOwner) → at (page_owners kernel) page ≡ Some owner → owner_in (entry_at kernel.page_entries (page - first_page kernel.size)) ≡ Some owner
-unfolding page_owner_of at
-owner-entry kernel page owner e = ⊎_elim
-    (λ (t : nat_lt page (first_page kernel.size) ≡ true). let no : None ≡ Some owner = rw t at e in cc)
-    (λ (t : nat_lt page (first_page kernel.size) ≡ false). rw t at e)
-    (cases_Bool (nat_lt page (first_page kernel.size)))
 
 module _ (old new : Kernel) (rest : KeepsUnreleased old new) where
   size-same : new.size ≡ old.size
@@ -43,7 +37,7 @@ module _ (old new : Kernel) (rest : KeepsUnreleased old new) where
   bytes-apart apart_now page owner none owned =
       let low = owned-in-bank old page owner owned in
       let real : page ≢ 0 = λ z. absurd (omega arith) in
-      let taken = is-taken (entry_at old.page_entries (page - first_page old.size)) owner (owner-entry old page owner owned) in
+      let taken = is-taken (entry_at old.page_entries (page - first_page old.size)) owner (owned-entry old page owner owned) in
       let same = (page_stays_apart old new (page - first_page old.size) owner taken.0 apart_now none).1 taken.1 in
       rw (ne_eqb page 0 real, size-same) same
 

@@ -7,15 +7,17 @@ ghost use Rattle.space_bank.specs.Bank.{BankGood};
 ghost use Rattle.space_bank.specs.Shares.{Outside};
 ghost use Rattle.forest.specs.Calls.{IsOwn};
 ghost use Rattle.forest.specs.Forest.{IsSpace};
+ghost use Rattle.forest.specs.Objects.{NodeObject};
 ghost use Rattle.forest.specs.Walks.{Mapping, map_of};
-ghost use Rattle.kernel_forest.specs.Trees.{forest_of, TreesGood};
+ghost use Rattle.kernel_forest.specs.Trees.{forest_of, page_tree, TreesGood};
 ghost use Rattle.kernel_machine.specs.Held.{AllWhole};
 ghost use Rattle.file_trees.specs.Pieces.{MayBeWritten};
 ghost use Rattle.file_trees.specs.Cuts.{CutsPage, CutsTree, ClearsPiece};
 
+use kernel_tables::PageOwner;
 use kn_base::Store;
 use seg_tree::{Space, find, unmap};
-use user_copy::put_bytes;
+use user_copy::put_in_page;
 
 /// Whether a tree maps a page below a page number, which is at most 2^19.
 pub fn maps_below<T: Store>(store: &T, tree: Space, end: u32) -> bool
@@ -78,9 +80,9 @@ fn zeros() -> [u8; 4096]
     [0; 4096]
 }
 
-/// Makes bytes that lie in one page of a tree zero, below 2^31, where a page is there. It takes a page where the tree has one that
-/// isn't its own there.
-pub fn clear_piece<T: Store>(store: &mut T, tree: Space, at: u32, count: u16)
+/// Makes bytes that lie in one page of a tree zero, below 2^31, where a page is there. It takes a page of the owner where the tree
+/// has one that isn't its own there.
+pub fn clear_piece<T: Store>(store: &mut T, tree: Space, at: u32, count: u16, owner: PageOwner)
     requires good { BankGood (kernel_of (T.memory store.old)) }
     requires trees { (outside : Outside) × TreesGood (kernel_of (T.memory store.old)) outside [] }
     requires space { IsSpace (forest_of (kernel_of (T.memory store.old))) [] tree.0.0 }
@@ -89,9 +91,10 @@ pub fn clear_piece<T: Store>(store: &mut T, tree: Space, at: u32, count: u16)
     requires low { at < 2 ^ 31 }
     requires some { 1 ≤ count }
     requires within { at % 4096 + count ≤ 4096 }
-    requires room { let old = kernel_of (T.memory store.old) in old.machine.nodes_taken + 23 ≤ old.nodes }
+    requires owner { page_tree owner ≡ (forest_of (kernel_of (T.memory store.old))).owner (NodeObject tree.0.0) }
+    requires room { let old = kernel_of (T.memory store.old) in old.machine.nodes_taken + 19 ≤ old.nodes }
     requires page_room { let old = kernel_of (T.memory store.old) in (found : Mapping) → map_of (forest_of old).keys tree.0.0 (at / 4096) ≡ Some found → found.page ≢ 0 → (IsOwn (forest_of old) tree.0.0 (at / 4096) found → ⊥) → old.machine.pages_taken < old.size }
-    ensures cleared { ClearsPiece (kernel_of (T.memory store.old)) (kernel_of (T.memory store.new)) tree.0.0 at count }
+    ensures cleared { ClearsPiece (kernel_of (T.memory store.old)) (kernel_of (T.memory store.new)) tree.0.0 at count owner }
     ensures good { BankGood (kernel_of (T.memory store.new)) }
     ensures keeps { T.keeps store.old store.new }
 {
@@ -99,7 +102,7 @@ pub fn clear_piece<T: Store>(store: &mut T, tree: Space, at: u32, count: u16)
         Some(found) => {
             if found.page.0 != 0 {
                 let zeros = zeros();
-                put_bytes(store, tree, at, &zeros[..count as usize]);
+                put_in_page(store, tree, at, &zeros[..count as usize], owner);
             }
         }
         None => {}

@@ -21,6 +21,7 @@ use Rattle.file_tables.proofs.FreshLaws.{fresh_good}
 use Rattle.forest.specs.Forest.{Forest, IsSpace}
 use Rattle.forest.specs.Objects.{NodeObject, OfProcess, OfFile}
 use Rattle.forest.specs.Walks.{place_of}
+use Rattle.kernel_forest.specs.Owners.{page_owner_of}
 use Rattle.kernel_forest.specs.Trees.{forest_of, outside_trees}
 use Rattle.unix_model.specs.Boot.{empty_machine, first_inodes}
 use Rattle.unix_model.specs.Calls.{Calls}
@@ -47,7 +48,7 @@ use Rattle.domain.specs.Slots.{room_of}
 use Rattle.kernel_machine.specs.Counts.{InodesCounted, DescriptionsCounted, opens}
 use Rattle.kernel_machine.specs.Good.{Good, MachineGood, MarksFit, ParkedGood}
 use Rattle.kernel_machine.specs.Held.{AllHeld}
-use Rattle.kernel_machine.specs.Machine.{machine_of, inodes_of, descriptions_of, page_owner_of}
+use Rattle.kernel_machine.specs.Machine.{machine_of, inodes_of, descriptions_of}
 use Rattle.kernel_machine.specs.Processes.{HasMarks, IsInSlot, SlotsGood, HoldingsGood}
 use Rattle.kernel_machine.specs.Trees.{IsRootOf, RootsGood, KeepersGood, keeper}
 use Rattle.kernel_machine.specs.View.{view, inodes_in, descriptions_in, processes_in}

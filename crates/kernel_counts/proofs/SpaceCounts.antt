@@ -14,15 +14,17 @@ use Rattle.kernel_tables.specs.Rows.{entry_at}
 use Rattle.space_bank.proofs.EntryLaws.{free_spelled}
 use Rattle.space_bank.proofs.FreeListLaws.{entry_inside}
 use Rattle.domain.proofs.Pages.{forest_paged}
-use Rattle.kernel_machine.proofs.OwnerLaws.{free-tree, none-shares, owned-inside, owned-no-tree}
+use Rattle.kernel_machine.proofs.OwnerLaws.{free-tree, none-shares, owned-no-tree}
 use Rattle.kernel_machine.proofs.StandingLaws.{same-memory}
 use Rattle.kernel_tables.specs.Rows.{KeepsRows, is_fixed, of_domain}
 use Rattle.space_bank.specs.Shares.{Outside}
 use Rattle.forest.specs.Forest.{Forest, IsSpace}
 use Rattle.forest.specs.Walks.{map_of}
 use Rattle.forest.specs.Objects.{NodeObject, OfFile, OfProcess}
+use Rattle.kernel_forest.specs.Owners.{page_owners}
 use Rattle.kernel_forest.specs.Trees.{forest_of, TreesGood}
 use Rattle.kernel_forest.proofs.RowLaws.{domains_apart, fixed_apart}
+use Rattle.kernel_forest.proofs.Owners.{owned-inside}
 use Rattle.file_tables.specs.Roots.{named_by}
 use Rattle.user_copy.specs.SpaceMemory.{memory_by, space_memory}
 use Rattle.domain.specs.Buffers.{WritesBuffer}
@@ -37,7 +39,6 @@ use Rattle.kernel_counts.proofs.CountsStand.{same-descriptors}
 use Rattle.kernel_counts.proofs.DomainCounts.{counted-by}
 use Rattle.kernel_machine.specs.Contents.{file_in, places_in}
 use Rattle.kernel_machine.specs.Machine.{machine_of, inodes_of, descriptions_of}
-use Rattle.kernel_machine.specs.Standing.{page_owners}
 use Rattle.kernel_machine.specs.Trees.{HasTree, RootsGood}
 use Rattle.kernel_machine.specs.View.{inode_by, inode_in, inodes_in, memory_in}
 use Rattle.kernel_machine.proofs.AddStands.{outside-owned}

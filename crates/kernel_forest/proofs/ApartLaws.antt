@@ -1,14 +1,10 @@
--- What belongs to no tree stays, while objects of trees are taken, counted, written and given back, keys stay
--- spelled, and pages of trees are named by trees.
-use Rattle.std.proofs.Common.{◌≡◌, ◌≢◌, ◌<◌, ◌≤◌, ◌+◌, ◌*◌, ◌-◌, arith, replicate, Some, get_or-set_same, ℕ, Bool, true, false, nat_lt, Option, None, List, [], length, set, get_or, get_or-set_other, refl, ap, sym, ◌∙◌, if◌then◌else◌, ⊎_elim}
+-- What belongs to no tree stays, while objects of trees are taken, counted, written and given back, and pages of trees are
+-- named by trees.
+use Rattle.std.proofs.Common.{◌≡◌, ◌≢◌, ◌<◌, ◌-◌, Some, ℕ, Bool, true, false, nat_lt, Option, None, List, [], length, set, get_or, get_or-set_other, refl, ap, sym, ◌∙◌, if◌then◌else◌, ⊎_elim}
 use Rattle.std.specs.Option.{is_some, IsSome}
 use Rattle.std.proofs.Math.Path.{fun_ext}
-use Rattle.std.proofs.lemmas.Bool.{cases_eq, cases_lt}
-use Rattle.std.proofs.lemmas.List.{get_or-replicate, length-replicate}
-use Rattle.kn_base.specs.declared.key.Key.{Key}
-use Rattle.kn_base.specs.declared.key.Key.TheVariants.{Null}
+use Rattle.std.proofs.lemmas.Bool.{cases_eq}
 use Rattle.kn_base.specs.Memory.{zero_page}
-use Rattle.kn_base.proofs.RowLaws.{get_or-overwritten_in, get_or-overwritten_below, get_or-overwritten_above}
 use Rattle.kernel_tables.specs.declared.entry.PageOwner.{PageOwner}
 use Rattle.kernel_tables.specs.declared.entry.NodeOwner.{NodeOwner}
 use Rattle.kernel_tables.specs.declared.entry.Entry.{Entry}
@@ -18,12 +14,12 @@ use Rattle.kernel_tables.specs.Rows.{entry_at}
 use Rattle.space_bank.specs.FreeList.{is_free}
 use Rattle.space_bank.specs.Bank.{TakesNode, TakesPage, page_given, node_given}
 use Rattle.space_bank.specs.Shares.{Outside}
-use Rattle.space_bank.specs.Changes.{with_count, page_counted, node_counted, key_written}
+use Rattle.space_bank.specs.Changes.{with_count, page_counted, node_counted}
 use Rattle.space_bank.proofs.EntryLaws.{set_cases}
 use Rattle.forest.specs.Objects.{Object, PageObject, Owner}
 use Rattle.kernel_forest.specs.Trees.{owner_of, forest_of, outside_trees, tree_in, page_tree, node_tree}
 use Rattle.kernel_forest.specs.Laws.{PageStaysApart, NodeStaysApart}
-use Rattle.kernel_forest.specs.Apart.{apart_entry, apart_bytes, Apart, apart_by, apart_of, KeepsApart, KeepsSpelled, KeepsInside}
+use Rattle.kernel_forest.specs.Apart.{apart_entry, apart_bytes, Apart, apart_by, apart_of, KeepsApart, KeepsInside}
 
 -- what belongs to a tree, and what is free, isn't seen
 in_tree : {O : Type 0} (tree : O → Option Owner) (entry : Entry O) → IsSome (tree_in tree entry) → apart_entry tree entry ≡ Free 0
@@ -125,30 +121,6 @@ apart-page_written kernel page bytes owned =
     bytes_set kernel.page_entries kernel.node_entries kernel.bank (page - first_page kernel.size) bytes
     (in_tree page_tree (entry_at kernel.page_entries (page - first_page kernel.size))
     (owned_entry (nat_lt page (first_page kernel.size)) (tree_in page_tree (entry_at kernel.page_entries (page - first_page kernel.size))) owned))
-
--- ---- places that spell keys
-
-pub same_spelled : (old new : Kernel) → new.keys ≡ old.keys → KeepsSpelled old new
-same_spelled old new e place some = ap (λ (keys : List (Option Key)). is_some (get_or keys place None)) e ∙ some
-
-pub spelled-key_written : (kernel : Kernel) (node digit : ℕ) (key : Key) → 16 * node + digit < length kernel.keys → KeepsSpelled kernel (key_written kernel node digit key)
-spelled-key_written kernel node digit key inside place some = ⊎_elim
-    (λ (same : place ≡ 16 * node + digit). ap (λ p. is_some (get_or (set kernel.keys (16 * node + digit) (Some key)) p None)) same ∙ ap is_some (get_or-set_same kernel.keys (16 * node + digit) (Some key) None inside))
-    (λ (other : place ≢ 16 * node + digit). ap is_some (get_or-set_other kernel.keys (16 * node + digit) place (Some key) None other) ∙ some)
-    (cases_eq place (16 * node + digit))
-
-pub spelled-node_given : (kernel : Kernel) (n : ℕ) → 16 * n + 16 ≤ length kernel.keys → KeepsSpelled kernel (node_given kernel n)
-spelled-node_given kernel n within place some =
-    let sixteen : length (replicate 16 (Some Null)) ≡ 16 = length-replicate 16 (Some Null) in
-    let fits : 16 * n + length (replicate 16 (Some Null)) ≤ length kernel.keys = omega arith in
-    ⊎_elim
-    (λ (t : place < 16 * n). ap is_some (get_or-overwritten_below kernel.keys (16 * n) (replicate 16 (Some Null)) place None fits t) ∙ some)
-    (λ (t : 16 * n ≤ place). ⊎_elim
-    (λ (u : place < 16 * n + 16).
-    ap is_some (get_or-overwritten_in kernel.keys (16 * n) (replicate 16 (Some Null)) place None fits t (omega arith) ∙ get_or-replicate 16 (place - 16 * n) (Some Null) None (omega arith)))
-    (λ (u : 16 * n + 16 ≤ place). ap is_some (get_or-overwritten_above kernel.keys (16 * n) (replicate 16 (Some Null)) place None fits (omega arith)) ∙ some)
-    (cases_lt place (16 * n + 16)))
-    (cases_lt place (16 * n))
 
 -- ---- pages of trees
 

@@ -24,8 +24,10 @@ use Rattle.forest.specs.Changes.{with_given, with_count}
 use Rattle.forest.specs.Release.{ReleaseStep, nothing as nothing_step, shared as shared_step, page as page_step, Release, done, more}
 use Rattle.forest.proofs.ReleaseLaws.{front_owned, release_keeps_spaces, some_not_none, is_or_not}
 use Rattle.kernel_forest.specs.Trees.{owner_of, count_of, forest_of, tree_in, tree_shares, page_tree, outside_by, outside_trees, IsTreeKey}
-use Rattle.kernel_forest.specs.Apart.{apart_of, KeepsApart, KeepsSpelled}
-use Rattle.kernel_forest.proofs.ApartLaws.{apart-page_counted, apart-page_given, same_spelled}
+use Rattle.kernel_forest.specs.Apart.{apart_of, KeepsApart}
+use Rattle.kernel_forest.specs.Owners.{page_owners, LeavesOwners}
+use Rattle.kernel_forest.proofs.ApartLaws.{apart-page_counted, apart-page_given}
+use Rattle.kernel_forest.proofs.Owners.{gone-leaves, keeps-leaves, owners-page_counted, owners-page_given}
 use Rattle.kernel_forest.specs.Releases.{Releasing, KeepsUnreleased, KeepsBytes, Lets, InHand}
 use Rattle.forest.proofs.ExactLaws.{with_object-here}
 use Rattle.forest.proofs.HeldLaws.{other_object}
@@ -127,11 +129,11 @@ given_fewer owner gone object some = ⊎_elim
 
 -- one step of a release, made by the bank
 pub lets_step : (old new : Kernel) (key : Key) (after : Forest) → forest_of new ≡ after → ((outside : Outside) → outside_trees new outside ≡ outside_trees old outside) → KeepsRows old new
-    → KeepsApart old new → KeepsSpelled old new → KeepsUnreleased old new → KeepsBytes old new
+    → KeepsApart old new → LeavesOwners old new → KeepsUnreleased old new → KeepsBytes old new
     → ((outside : Outside) (hand : List Key) → Shares old outside (key ∷ hand) → Shares new outside hand)
     → ((outside : Outside) (hand : List Key) → Releasing old outside (key ∷ hand) → ReleaseStep (forest_of old) (key ∷ hand) after hand)
     → Lets old new (key ∷ []) []
-lets_step old new key after now outside_is rows apart spelled rest bytes shares step = record {
+lets_step old new key after now outside_is rows apart owners rest bytes shares step = record {
   lets = λ outside hand r.
       let release : Release (forest_of old) (key ∷ hand) (forest_of new) hand =
       subst (λ f. Release (forest_of old) (key ∷ hand) f hand) (sym now) (more (step outside hand r) done) in
@@ -142,14 +144,14 @@ lets_step old new key after now outside_is rows apart spelled rest bytes shares 
   outside_now = outside_is;
   rows_now = rows;
   apart_now = apart;
-  spelled_now = spelled;
+  owners_now = owners;
   rest = rest;
   keeps = bytes;
 }
 
 pub lets_nothing : (kernel : Kernel) (key : Key) → named key ≡ None → IsTreeKey key → Lets kernel kernel (key ∷ []) []
 lets_nothing kernel key none tree =
-    lets_step kernel kernel key (forest_of kernel) refl (λ outside. refl) (λ mine apart. refl) refl (λ place some. some) refl
+    lets_step kernel kernel key (forest_of kernel) refl (λ outside. refl) (λ mine apart. refl) refl (λ page owner has. has) refl
     (keeps_bytes kernel kernel (forest_of kernel) refl (λ object some. some) (λ page. refl))
     (λ outside hand counted. (uncounted_in_hand kernel outside hand key none tree).1 counted)
     (λ outside hand r. nothing_step key none)
@@ -185,7 +187,7 @@ lets_page_given old new id writable good real h one e takes =
     (λ outside. ap (λ k. outside_trees k outside) e ∙ outside-page_given old (id.0 - first_page old.size) outside)
     (subst (λ (k : Kernel). KeepsRows old k) (sym e) (λ mine apart. refl))
     (ap apart_of e ∙ apart-page_given old (id.0 - first_page old.size) there inside.some)
-    (same_spelled old new (ap (λ (k : Kernel). k.keys) e))
+    (gone-leaves old new id.0 (ap page_owners e ∙ owners-page_given old id.0 low there))
     (subst (λ (k : Kernel). KeepsUnreleased old k) (sym e) refl)
     (given_bytes old new (id.0 - first_page old.size) id.0 number e now owned)
     (λ outside hand counted. takes outside hand (Page id writable) (eq-eqb id.0 id.0 refl) counted)
@@ -208,7 +210,7 @@ lets_page_lowered old new id writable good real h two e takes =
     (λ outside. ap (λ k. outside_trees k outside) e ∙ outside-page_counted old (id.0 - first_page old.size) (shares (entry_at old.page_entries (id.0 - first_page old.size)) - 1) outside there)
     (subst (λ (k : Kernel). KeepsRows old k) (sym e) (λ mine apart. refl))
     (ap apart_of e ∙ apart-page_counted old (id.0 - first_page old.size) (shares (entry_at old.page_entries (id.0 - first_page old.size)) - 1) there inside.some)
-    (same_spelled old new (ap (λ (k : Kernel). k.keys) e))
+    (keeps-leaves old new (ap page_owners e ∙ owners-page_counted old (id.0 - first_page old.size) (shares (entry_at old.page_entries (id.0 - first_page old.size)) - 1) there))
     (subst (λ (k : Kernel). KeepsUnreleased old k) (sym e) refl)
     (keeps_bytes old new (with_count (forest_of old) (PageObject id.0) ((forest_of old).count (PageObject id.0) - 1)) now (λ object some. some) (λ page. ap (λ (k : Kernel). bank_page k page) e))
     (λ outside hand counted. takes outside hand (Page id writable) (eq-eqb id.0 id.0 refl) counted)

@@ -36,8 +36,10 @@ use Rattle.kernel_forest.proofs.RowLaws.{rows_same, tree_apart}
 use Rattle.kernel_forest.proofs.Moves.{node_below, node_taken, node_in_entries, node_shares, tree_place, owner_entry}
 use Rattle.kernel_forest.specs.Moves.{KeepsRest, LowersKey}
 use Rattle.kernel_forest.specs.Laws.{GivesNode}
-use Rattle.kernel_forest.specs.Apart.{apart_of, KeepsSpelled}
-use Rattle.kernel_forest.proofs.ApartLaws.{apart-node_given, spelled-node_given}
+use Rattle.kernel_forest.specs.Apart.{apart_of}
+use Rattle.kernel_forest.specs.Owners.{page_owners}
+use Rattle.kernel_forest.proofs.ApartLaws.{apart-node_given}
+use Rattle.kernel_forest.proofs.Owners.{keeps-leaves}
 use Rattle.kernel_forest.specs.Releases.{KeepsUnreleased}
 use Rattle.kernel_forest.proofs.Giving.{lets_step, once_by, keeps_bytes, given_fewer}
 
@@ -61,7 +63,7 @@ pub lets_node_lowered : (old new : Kernel) (node : NodeId) (height : ℕ) → In
 lets_node_lowered old new node height h many lowers =
     let alive = hand_alive old node height h in
     lets_step old new (Segment node height) (with_count (forest_of old) (NodeObject node.0) ((forest_of old).count (NodeObject node.0) - 1))
-    lowers.steps.forest_now lowers.steps.outside_now lowers.steps.rows_now lowers.steps.apart_now lowers.steps.spelled_now (unreleased old new lowers.steps.rest)
+    lowers.steps.forest_now lowers.steps.outside_now lowers.steps.rows_now lowers.steps.apart_now (keeps-leaves old new lowers.steps.owners_now) (unreleased old new lowers.steps.rest)
     (keeps_bytes old new (with_count (forest_of old) (NodeObject node.0) ((forest_of old).count (NodeObject node.0) - 1)) lowers.steps.forest_now (λ object some. some) (same_bytes old new lowers.steps.rest))
     lowers.shares
     (λ outside hand r. shared_step (Segment node height) (NodeObject node.0) refl (omega arith))
@@ -170,7 +172,7 @@ module _ (old new : Kernel) (node : NodeId) (height : ℕ) (good : BankGood old)
       (λ other. refl))
       (λ m place own low. ap (λ (t : ℕ → Key). t (16 * m + place)) table_same)))
       (ap apart_of e ∙ apart-node_given old node.0 inside (rw (← owner_entry old node.0) owned))
-      (subst (λ (k : Kernel). KeepsSpelled old k) (sym e) (spelled-node_given old node.0 fits_keys))
+      (keeps-leaves old new (ap page_owners e))
       (subst (λ (k : Kernel). KeepsUnreleased old k) (sym e) refl)
       (keeps_bytes old new (with_given (forest_of old) (NodeObject node.0)) (given_forest e) (λ object some. given_fewer (forest_of old).owner (NodeObject node.0) object some) (λ page. ap (λ (k : Kernel). bank_page k page) e))
       (λ outside hand counted. takes.nothing outside hand (Segment node height) (eq-eqb node.0 node.0 refl) (nothing_at old) counted)

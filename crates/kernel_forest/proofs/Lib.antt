@@ -1,6 +1,7 @@
 pub mod Bridge
 pub mod RowLaws
 pub mod ApartLaws
+pub mod Owners
 pub mod Outside
 pub mod Moves
 pub mod InTrees

@@ -30,8 +30,10 @@ use Rattle.forest.proofs.ExactLaws.{count_same}
 use Rattle.forest.proofs.MaskLaws.{masked_writes, masked_owners}
 use Rattle.kernel_forest.specs.Trees.{owner_of, count_of, tree_shares, forest_of, tree_in, page_tree, node_tree, is_counted, is_elsewhere, elsewhere, outside_by, outside_trees, IsTreeKey, AreTreeKeys}
 use Rattle.kernel_forest.proofs.Bridge.{counts_alike, count_places, places_split, hand_alike, tree_below, tree_taken, page_inside, PageInside, shares_tree}
-use Rattle.kernel_forest.specs.Apart.{apart_of, KeepsApart, KeepsSpelled}
-use Rattle.kernel_forest.proofs.ApartLaws.{apart-node_counted, apart-page_counted, apart-node_taken, same_spelled, spelled-key_written}
+use Rattle.kernel_forest.specs.Apart.{apart_of, KeepsApart}
+use Rattle.kernel_forest.specs.Owners.{page_owners, KeepsOwners}
+use Rattle.kernel_forest.proofs.ApartLaws.{apart-node_counted, apart-page_counted, apart-node_taken}
+use Rattle.kernel_forest.proofs.Owners.{owners-page_counted}
 use Rattle.kernel_forest.proofs.RowLaws.{rows-node_counted, rows-node_taken, rows-tree_written}
 use Rattle.kernel_forest.specs.Moves.{KeepsRest, RaisesKey, PutsKey, TakesFresh, LowersKey, MayRaise}
 
@@ -291,7 +293,7 @@ puts_key old new node digit key good owned below now was e exchanges =
         outside_now = λ outside. ap (λ k. outside_trees k outside) e ∙ outside-key_written old node digit key inside below owned outside now was;
         rows_now = rows_of old new (key_written old node digit key) e (rows-tree_written old node digit key below (rw (← owner_entry old node) owned));
         apart_now = ap apart_of e;
-        spelled_now = subst (λ (k : Kernel). KeepsSpelled old k) (sym e) (spelled-key_written old node digit key inside);
+        owners_now = ap page_owners e;
         rest = rest_of old new (key_written old node digit key) e refl;
         number = ap (λ (k : Kernel). k.machine.nodes_taken) e ∙ sym (add-zero old.machine.nodes_taken);
       };
@@ -331,10 +333,10 @@ page_shares kernel page inside = rw (le-ltb page (first_page kernel.size) inside
 
 -- a key is raised
 raises : (old new : Kernel) (key : Key) (forest : Forest) → raised (forest_of old) key ≡ forest → forest_of new ≡ forest
-    → ((outside : Outside) → outside_trees new outside ≡ outside_trees old outside) → KeepsRows old new → KeepsApart old new → KeepsSpelled old new → KeepsRest old new → new.machine.nodes_taken ≡ old.machine.nodes_taken
+    → ((outside : Outside) → outside_trees new outside ≡ outside_trees old outside) → KeepsRows old new → KeepsApart old new → KeepsOwners old new → KeepsRest old new → new.machine.nodes_taken ≡ old.machine.nodes_taken
     → ((outside : Outside) (hand : List Key) → Shares old outside hand → Shares new outside (key ∷ hand)) → RaisesKey old new key
-raises old new key forest is now outside rows apart spelled rest number shares = record {
-  steps = record { forest_now = now ∙ sym is; outside_now = outside; rows_now = rows; apart_now = apart; spelled_now = spelled; rest = rest; number = number ∙ sym (add-zero old.machine.nodes_taken) };
+raises old new key forest is now outside rows apart owners rest number shares = record {
+  steps = record { forest_now = now ∙ sym is; outside_now = outside; rows_now = rows; apart_now = apart; owners_now = owners; rest = rest; number = number ∙ sym (add-zero old.machine.nodes_taken) };
   shares = shares;
 }
 
@@ -350,7 +352,7 @@ raises_node old new node height owned e puts =
     (λ outside. ap (λ k. outside_trees k outside) e ∙ outside-node_counted old node.0 (shares (entry_at old.node_entries node.0) + 1) outside inside)
     (rows_of old new (node_counted old node.0 (shares (entry_at old.node_entries node.0) + 1)) e (rows-node_counted old node.0 (shares (entry_at old.node_entries node.0) + 1) inside))
     (ap apart_of e ∙ apart-node_counted old node.0 (shares (entry_at old.node_entries node.0) + 1) inside (rw (← owner_entry old node.0) owned))
-    (same_spelled old new (ap (λ (k : Kernel). k.keys) e))
+    (ap page_owners e)
     (rest_of old new (node_counted old node.0 (shares (entry_at old.node_entries node.0) + 1)) e refl)
     (ap (λ (k : Kernel). k.machine.nodes_taken) e)
     (λ outside hand counted. puts outside hand (Segment node height) (eq-eqb node.0 node.0 refl) counted)
@@ -374,14 +376,14 @@ raises_page old new page writable good real owned e puts =
     (λ outside. ap (λ k. outside_trees k outside) e ∙ outside-page_counted old (page.0 - first_page old.size) (shares (entry_at old.page_entries (page.0 - first_page old.size)) + 1) outside inside)
     (rows_of old new (page_counted old (page.0 - first_page old.size) (shares (entry_at old.page_entries (page.0 - first_page old.size)) + 1)) e (λ mine apart. refl))
     (ap apart_of e ∙ apart-page_counted old (page.0 - first_page old.size) (shares (entry_at old.page_entries (page.0 - first_page old.size)) + 1) inside here.some)
-    (same_spelled old new (ap (λ (k : Kernel). k.keys) e))
+    (ap page_owners e ∙ owners-page_counted old (page.0 - first_page old.size) (shares (entry_at old.page_entries (page.0 - first_page old.size)) + 1) inside)
     (rest_of old new (page_counted old (page.0 - first_page old.size) (shares (entry_at old.page_entries (page.0 - first_page old.size)) + 1)) e refl)
     (ap (λ (k : Kernel). k.machine.nodes_taken) e)
     (λ outside hand counted. puts outside hand (Page page writable) (eq-eqb page.0 page.0 refl) counted)
 
 pub raises_nothing : (old : Kernel) (key : Key) → named key ≡ None → IsTreeKey key → RaisesKey old old key
 raises_nothing old key none tree =
-    raises old old key (forest_of old) (ap (counted_more (forest_of old)) none) refl (λ outside. refl) (λ mine apart. refl) refl (λ place some. some) refl refl
+    raises old old key (forest_of old) (ap (counted_more (forest_of old)) none) refl (λ outside. refl) (λ mine apart. refl) refl refl refl refl
     (λ outside hand counted. (uncounted_in_hand old outside hand key none tree).0 counted)
 
 -- what a key that is raised asks of the bank
@@ -445,7 +447,7 @@ takes_fresh old new node owner to good tree takes puts =
         outside_now = outside-node_taken old new node.0 owner to inside takes tree;
         rows_now = rows-node_taken old new node.0 owner inside (ap is_some tree) takes;
         apart_now = apart-node_taken old new node.0 owner inside (ap is_some tree) takes;
-        spelled_now = same_spelled old new (ap (λ (k : Kernel). k.keys) takes.state);
+        owners_now = ap page_owners takes.state;
         rest = rest_of old new (record old {
           machine = record old.machine { free_node = new.machine.free_node; nodes_taken = old.machine.nodes_taken + 1 };
           node_entries = set old.node_entries node.0 (Taken owner 1);
@@ -472,7 +474,7 @@ lowers_node old new node height owned e takes =
         outside_now = λ outside. ap (λ k. outside_trees k outside) e ∙ outside-node_counted old node.0 (shares (entry_at old.node_entries node.0) - 1) outside inside;
         rows_now = rows_of old new (node_counted old node.0 (shares (entry_at old.node_entries node.0) - 1)) e (rows-node_counted old node.0 (shares (entry_at old.node_entries node.0) - 1) inside);
         apart_now = ap apart_of e ∙ apart-node_counted old node.0 (shares (entry_at old.node_entries node.0) - 1) inside (rw (← owner_entry old node.0) owned);
-        spelled_now = same_spelled old new (ap (λ (k : Kernel). k.keys) e);
+        owners_now = ap page_owners e;
         rest = rest_of old new (node_counted old node.0 (shares (entry_at old.node_entries node.0) - 1)) e refl;
         number = ap (λ (k : Kernel). k.machine.nodes_taken) e ∙ sym (add-zero old.machine.nodes_taken);
       };
@@ -498,7 +500,7 @@ lowers_page_key old new page writable good real owned e takes =
         outside_now = λ outside. ap (λ k. outside_trees k outside) e ∙ outside-page_counted old (page.0 - first_page old.size) (shares (entry_at old.page_entries (page.0 - first_page old.size)) - 1) outside inside;
         rows_now = rows_of old new (page_counted old (page.0 - first_page old.size) (shares (entry_at old.page_entries (page.0 - first_page old.size)) - 1)) e (λ mine apart. refl);
         apart_now = ap apart_of e ∙ apart-page_counted old (page.0 - first_page old.size) (shares (entry_at old.page_entries (page.0 - first_page old.size)) - 1) inside here.some;
-        spelled_now = same_spelled old new (ap (λ (k : Kernel). k.keys) e);
+        owners_now = ap page_owners e ∙ owners-page_counted old (page.0 - first_page old.size) (shares (entry_at old.page_entries (page.0 - first_page old.size)) - 1) inside;
         rest = rest_of old new (page_counted old (page.0 - first_page old.size) (shares (entry_at old.page_entries (page.0 - first_page old.size)) - 1)) e refl;
         number = ap (λ (k : Kernel). k.machine.nodes_taken) e ∙ sym (add-zero old.machine.nodes_taken);
       };

@@ -22,7 +22,9 @@ use Rattle.kernel_forest.specs.Trees.{owner_of, count_of, forest_of, tree_in, tr
 use Rattle.kernel_forest.specs.Laws.{TakesTreePage}
 use Rattle.kernel_forest.proofs.Bridge.{count_places, places_split, hand_alike}
 use Rattle.kernel_forest.proofs.Giving.{masked_pages}
-use Rattle.kernel_forest.proofs.ApartLaws.{apart-page_taken, same_spelled}
+use Rattle.kernel_forest.specs.Owners.{page_owners}
+use Rattle.kernel_forest.proofs.ApartLaws.{apart-page_taken}
+use Rattle.kernel_forest.proofs.Owners.{owners-set}
 
 taken_owner : (first : ℕ) (pages : List (Entry PageOwner)) (nodes : List (Entry NodeOwner)) (n : ℕ) (owner : PageOwner) → n < length pages
     → (object : Object) → owner_of first (set pages n (Taken owner 1)) nodes object ≡ with_object (owner_of first pages nodes) (PageObject (first + n)) (page_tree owner) object
@@ -101,7 +103,7 @@ takes_page old new page owner to good tree takes puts =
           (masked_pages (first_page old.size) old.page_entries (set old.page_entries (page - first_page old.size) (Taken owner 1)) old.node_entries (key_table old.keys));
       rows_now = subst (λ (k : Kernel). KeepsRows old k) (sym takes.state) (λ mine apart. refl);
       apart_now = apart-page_taken old new page owner inside (ap is_some tree) takes;
-      spelled_now = same_spelled old new (ap (λ (k : Kernel). k.keys) takes.state);
+      owners_now = ap page_owners takes.state ∙ owners-set (first_page old.size) old.page_entries page (Taken owner 1) low inside;
       rest = takes.state ∙ ap (λ (k : Kernel). let r : Kernel = record old {
         machine = record old.machine { free_page = new.machine.free_page; memory_taken = k.machine.memory_taken; pages_taken = old.machine.pages_taken + 1 };
         page_entries = k.page_entries;

@@ -1,6 +1,6 @@
 -- What of the tables belongs to no tree: the entries of nodes and pages that are taken for something else, and the bytes of
--- such pages. And what holds of all keys, and of all pages of trees.
-use Rattle.std.specs.Prelude.{◌≡◌, ℕ, if◌then◌else◌, Option, None, IsSome, is_some, List, [], slice_index_or}
+-- such pages. And what holds of all pages of trees.
+use Rattle.std.specs.Prelude.{◌≡◌, ℕ, if◌then◌else◌, Option, is_some, List, [], slice_index_or}
 use Rattle.kernel_tables.specs.declared.entry.PageOwner.{PageOwner}
 use Rattle.kernel_tables.specs.declared.entry.NodeOwner.{NodeOwner}
 use Rattle.kernel_tables.specs.declared.entry.Entry.{Entry}
@@ -45,10 +45,6 @@ apart_of kernel = apart_by kernel.page_entries kernel.node_entries kernel.bank
 -- whatever belongs to no tree is as it was
 abbrev pub KeepsApart : Kernel → Kernel → Type 0
 KeepsApart old new = apart_of new ≡ apart_of old
-
--- each place at which a key is spelled spells one still
-abbrev pub KeepsSpelled : Kernel → Kernel → Type 0
-KeepsSpelled old new = (place : ℕ) → IsSome (slice_index_or old.keys place None) → IsSome (slice_index_or new.keys place None)
 
 -- pages of trees are named by keys of trees alone, where they were so before
 abbrev pub KeepsInside : Kernel → Kernel → Outside → Type 0

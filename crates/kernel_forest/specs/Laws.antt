@@ -74,7 +74,7 @@ abbrev pub TakesTreePage : Type 0
 TakesTreePage =
     (old new : Kernel) (page : ℕ) (owner : PageOwner) (to : Owner)
     → BankGood old → page_tree owner ≡ Some to → TakesPage old new page owner → PutsPageInHand old new page
-    → TakesFreshPage old new page to
+    → TakesFreshPage old new page owner to
 
 -- What a key of a tree names is counted once more: a page, or a node.
 abbrev pub RaisesPage : Type 0

@@ -3,6 +3,7 @@ use Rattle.std.specs.Prelude.{◌≡◌, ◌≢◌, ℕ, ◌+◌, ◌*◌, ◌<�
 use Rattle.kn_base.specs.declared.key.Key.{Key}
 use Rattle.kn_base.specs.declared.key.Key.TheVariants.{Null, Page, Segment}
 use Rattle.kn_base.specs.Memory.{zero_page}
+use Rattle.kernel_tables.specs.declared.entry.PageOwner.{PageOwner}
 use Rattle.kernel_tables.specs.declared.entry.NodeOwner.{NodeOwner}
 use Rattle.kernel_tables.specs.declared.entry.NodeOwner.TheVariants.{Domain}
 use Rattle.kernel_tables.specs.declared.entry.Entry.{Entry}
@@ -17,7 +18,8 @@ use Rattle.forest.specs.Objects.{Object, PageObject, NodeObject, Owner, named}
 use Rattle.forest.specs.Forest.{Forest}
 use Rattle.forest.specs.Changes.{raised, with_key, with_taken, lowered, IsFree}
 use Rattle.kernel_forest.specs.Trees.{forest_of, outside_trees, AreTreeKeys}
-use Rattle.kernel_forest.specs.Apart.{KeepsApart, KeepsSpelled}
+use Rattle.kernel_forest.specs.Apart.{KeepsApart}
+use Rattle.kernel_forest.specs.Owners.{page_owners, KeepsOwners}
 
 -- the trees have changed, and nothing else of the tables
 abbrev pub KeepsRest : Kernel → Kernel → Type 0
@@ -36,7 +38,7 @@ pub record Steps (old new : Kernel) (forest : Forest) (taken : ℕ) : Type 0 whe
   pub outside_now : (outside : Outside) → outside_trees new outside ≡ outside_trees old outside
   pub rows_now : KeepsRows old new
   pub apart_now : KeepsApart old new
-  pub spelled_now : KeepsSpelled old new
+  pub owners_now : KeepsOwners old new
   pub rest : KeepsRest old new
   pub number : new.machine.nodes_taken ≡ old.machine.nodes_taken + taken
 
@@ -76,13 +78,13 @@ pub record Changes (old new : Kernel) (forest : Forest) (taken : ℕ) : Type 0 w
   pub shares : (outside : Outside) (hand : List Key) → Shares old outside hand → Shares new outside hand
 
 -- A page was taken for a tree: it is zero, nothing named it, and its key is in hand.
-pub record TakesFreshPage (old new : Kernel) (page : ℕ) (owner : Owner) : Type 0 where
+pub record TakesFreshPage (old new : Kernel) (page : ℕ) (by : PageOwner) (owner : Owner) : Type 0 where
   pub inside : IsBankPage old.size page
   pub forest_now : forest_of new ≡ with_taken (forest_of old) (PageObject page) owner
   pub outside_now : (outside : Outside) → outside_trees new outside ≡ outside_trees old outside
   pub rows_now : KeepsRows old new
   pub apart_now : KeepsApart old new
-  pub spelled_now : KeepsSpelled old new
+  pub owners_now : page_owners new ≡ with_at (page_owners old) page (Some by)
   pub rest :
       new
       ≡ record old {

@@ -8,7 +8,8 @@ use Rattle.forest.specs.Objects.{Object, PageObject}
 use Rattle.forest.specs.Forest.{Held}
 use Rattle.forest.specs.Release.{Release}
 use Rattle.kernel_forest.specs.Trees.{forest_of, outside_trees, AreTreeKeys}
-use Rattle.kernel_forest.specs.Apart.{KeepsApart, KeepsSpelled}
+use Rattle.kernel_forest.specs.Apart.{KeepsApart}
+use Rattle.kernel_forest.specs.Owners.{LeavesOwners}
 
 -- what holds between steps of a release
 pub record Releasing (kernel : Kernel) (outside : Outside) (hand : List Key) : Type 0 where
@@ -48,7 +49,7 @@ pub record Lets (old new : Kernel) (before after : List Key) : Type 0 where
   pub outside_now : (outside : Outside) → outside_trees new outside ≡ outside_trees old outside
   pub rows_now : KeepsRows old new
   pub apart_now : KeepsApart old new
-  pub spelled_now : KeepsSpelled old new
+  pub owners_now : LeavesOwners old new
   pub rest : KeepsUnreleased old new
   pub keeps : KeepsBytes old new
 

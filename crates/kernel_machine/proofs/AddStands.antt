@@ -4,7 +4,7 @@ use Rattle.std.specs.Option.{is_some}
 use Rattle.std.proofs.lemmas.Bool.{cases_eq}
 use Rattle.kn_base.specs.declared.key.Key.{Key}
 use Rattle.kernel_tables.specs.declared.entry.PageOwner.{PageOwner}
-use Rattle.kernel_tables.specs.declared.entry.PageOwner.TheVariants.{Buffer, Pipe as PipePage}
+use Rattle.kernel_tables.specs.declared.entry.PageOwner.TheVariants.{File as FilePage, Directory, Buffer, Pipe as PipePage}
 use Rattle.kernel_tables.specs.declared.inode.Inode.{Inode}
 use Rattle.kernel_tables.specs.declared.inode.InodeKind.{InodeKind}
 use Rattle.kernel_tables.specs.declared.inode.InodeKind.TheVariants.{File, Dir, Pipe, Console}
@@ -17,8 +17,10 @@ use Rattle.space_bank.specs.Shares.{Outside}
 use Rattle.forest.specs.Calls.{AddsSpace}
 use Rattle.forest.specs.Forest.{IsSpace, NoPageOutside}
 use Rattle.forest.specs.Objects.{PageObject, NodeObject, Owner, OfProcess, OfFile}
-use Rattle.forest.specs.Walks.{Mapping, place_of, space_key}
+use Rattle.forest.specs.Walks.{Mapping, map_of, place_of, space_key}
+use Rattle.kernel_forest.specs.Owners.{page_owners, PagesAreOf}
 use Rattle.kernel_forest.specs.Trees.{forest_of, outside_trees, page_tree, TreesGood}
+use Rattle.kernel_forest.proofs.Owners.{pages-kept}
 use Rattle.kernel_forest.proofs.RowLaws.{domains_apart}
 use Rattle.file_tables.specs.Roots.{named_by}
 use Rattle.unix_model.specs.Tables.{at}
@@ -30,7 +32,7 @@ use Rattle.kernel_machine.specs.Loose as law
 use Rattle.kernel_machine.specs.Loose.{Loose, Nothing, Space, Tree, loose_key, word_of, owned_space, keeper_of, IsTaken, IsLoose, HeldBut, StandingBut, outside_with}
 use Rattle.kernel_machine.specs.Machine.{inodes_of}
 use Rattle.kernel_machine.specs.Processes.{HoldingsGood}
-use Rattle.kernel_machine.specs.Standing.{Standing, page_owners}
+use Rattle.kernel_machine.specs.Standing.{Standing}
 use Rattle.kernel_machine.specs.Trees.{IsFileTree, IsRootOf, RootsGood, KeepersGood}
 use Rattle.kernel_machine.proofs.KeepLaws.{outside-more}
 use Rattle.kernel_machine.proofs.LooseLaws.{word-no-space, word-tree}
@@ -173,9 +175,20 @@ module _ (old new : Kernel) (space : ℕ) (owner : Owner) (map : ℕ → Option 
           tree-by-memory (forest_of old).keys (forest_of new).keys (memory_page old) (memory_page old) inode.root inode.length
           (ap (memory_by (memory_page old)) (added.1.others.maps inode.root is (not-space inode.root is))) tree
 
+      pages-now : (whose : PageOwner) (inode : Inode) → IsSpace (forest_of old) [] inode.root
+          → PagesAreOf whose (page_owners old) (map_of (forest_of old).keys inode.root)
+          → PagesAreOf whose (page_owners new) (map_of (forest_of new).keys inode.root)
+      pages-now whose inode is =
+          pages-kept whose old new (map_of (forest_of old).keys inode.root) (map_of (forest_of new).keys inode.root)
+          (added.1.others.maps inode.root is (not-space inode.root is)) adds.owners_now
+
       root-now : (inode : Inode) (kind : InodeKind) → IsRootOf (forest_of old) (memory_page old) (page_owners old) inode kind → IsRootOf (forest_of new) (memory_page old) (page_owners new) inode kind
-      root-now inode File is = λ some. let h = is some in let now = space-now inode.root OfFile (h.0, h.1) in (now.0, now.1, tree-now inode h.0 h.2)
-      root-now inode Dir is = λ some. let h = is some in let now = space-now inode.root OfFile (h.0, h.1) in (now.0, now.1, tree-now inode h.0 h.2)
+      root-now inode File is = λ some.
+          let h = is some in
+          let now = space-now inode.root OfFile (h.0, h.1) in (now.0, now.1, tree-now inode h.0 h.2, pages-now FilePage inode h.0 h.3)
+      root-now inode Dir is = λ some.
+          let h = is some in
+          let now = space-now inode.root OfFile (h.0, h.1) in (now.0, now.1, tree-now inode h.0 h.2, pages-now Directory inode h.0 h.3)
       root-now inode Pipe is = owned-now inode.root PipePage refl is
       root-now inode Console is = is
 

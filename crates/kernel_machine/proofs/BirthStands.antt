@@ -9,6 +9,7 @@ use Rattle.space_bank.specs.Bank.{BankGood}
 use Rattle.space_bank.specs.Shares.{Outside}
 use Rattle.forest.specs.Forest.{Forest, IsSpace, NoPageOutside}
 use Rattle.forest.specs.Objects.{PageObject, NodeObject, OfProcess}
+use Rattle.kernel_forest.specs.Owners.{page_owner_of, page_owners}
 use Rattle.kernel_forest.specs.Trees.{forest_of, outside_trees, TreesGood}
 use Rattle.file_tables.specs.Roots.{named_by}
 use Rattle.unix_model.specs.Tables.{at, with_at}
@@ -20,12 +21,12 @@ use Rattle.domain.specs.Rules.{RowsGood}
 use Rattle.domain.proofs.DomainLaws.{live_meter}
 use Rattle.domain.proofs.Ending.{root_regs_node, root_descriptors_node}
 use Rattle.kernel_machine.specs.Held.{AllHeld, NodesHeld, IsNodeOf}
-use Rattle.kernel_machine.specs.Machine.{inodes_of, page_owner_of}
+use Rattle.kernel_machine.specs.Machine.{inodes_of}
 use Rattle.kernel_machine.specs.Processes.{HoldingsGood}
 use Rattle.kernel_machine.specs.Loose as law
 use Rattle.kernel_machine.specs.Loose.{Space, StandingBut}
 use Rattle.kernel_machine.specs.Standing as standing_law
-use Rattle.kernel_machine.specs.Standing.{Standing, page_owners}
+use Rattle.kernel_machine.specs.Standing.{Standing}
 use Rattle.kernel_machine.proofs.AddStands.{standing_with_space}
 use Rattle.kernel_machine.specs.Trees.{keeper}
 use Rattle.kernel_machine.proofs.KeepLaws.{outside-same, trees_with_birth}

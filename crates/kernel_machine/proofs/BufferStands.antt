@@ -9,7 +9,7 @@ use Rattle.kn_base.specs.Rows.{overwritten}
 use Rattle.kn_base.proofs.RowLaws.{length-overwritten}
 use Rattle.kernel_tables.specs.declared.entry.Entry.TheVariants.{Free, Taken}
 use Rattle.kernel_tables.specs.declared.entry.PageOwner.{PageOwner}
-use Rattle.kernel_tables.specs.declared.entry.PageOwner.TheVariants.{Buffer, Pipe as PipePage}
+use Rattle.kernel_tables.specs.declared.entry.PageOwner.TheVariants.{File as FilePage, Directory, Buffer, Pipe as PipePage}
 use Rattle.kernel_tables.specs.declared.inode.Inode.{Inode}
 use Rattle.kernel_tables.specs.declared.inode.InodeKind.{InodeKind}
 use Rattle.kernel_tables.specs.declared.inode.InodeKind.TheVariants.{File, Dir, Pipe, Console}
@@ -23,7 +23,9 @@ use Rattle.space_bank.proofs.EntryLaws.{free_spelled}
 use Rattle.forest.specs.Forest.{Forest, IsSpace, NoPageOutside}
 use Rattle.forest.specs.Walks.{map_of}
 use Rattle.forest.specs.Objects.{Object, PageObject}
+use Rattle.kernel_forest.specs.Owners.{page_owners}
 use Rattle.kernel_forest.specs.Trees.{forest_of, outside_trees, TreesGood}
+use Rattle.kernel_forest.proofs.Owners.{free-by-nobody, owned-in-bank, owned-inside, owners-set}
 use Rattle.file_tables.specs.Roots.{named_by}
 use Rattle.unix_model.specs.Tables.{at, with_at}
 use Rattle.unix_model.proofs.TableLaws.{at-with_at, at-with_at-other}
@@ -35,11 +37,11 @@ use Rattle.kernel_machine.specs.Held.{AllHeld, IsNodeOf}
 use Rattle.kernel_machine.specs.Machine.{inodes_of}
 use Rattle.kernel_machine.specs.Processes.{HoldingsGood}
 use Rattle.kernel_machine.specs.Standing as law
-use Rattle.kernel_machine.specs.Standing.{Standing, page_owners}
+use Rattle.kernel_machine.specs.Standing.{Standing}
 use Rattle.kernel_machine.specs.Trees.{IsRootOf}
 use Rattle.kernel_machine.proofs.HeldLaws.{stays}
 use Rattle.kernel_machine.proofs.KeepLaws.{outside-more, trees-again}
-use Rattle.kernel_machine.proofs.OwnerLaws.{free-by-nobody, free-in-no-tree, other-page, owned-below, owned-in-bank, owned-inside, owners-set, unowned-by, whole-set}
+use Rattle.kernel_machine.proofs.OwnerLaws.{free-in-no-tree, other-page, owned-below, unowned-by, whole-set}
 use Rattle.kernel_machine.proofs.StandingLaws.{filled-to, held-to, holdings-to, is-node, keepers-to, root-same, roots-to, same-memory, standing_with_bytes}
 
 -- ---- a page more for a buffer
@@ -139,8 +141,10 @@ module _ (old new : Kernel) (root page : ℕ) (takes : TakesBuffer old new root 
       }
 
   root-now : (inode : Inode) (kind : InodeKind) → IsRootOf (forest_of old) (memory_page old) (page_owners old) inode kind → IsRootOf (forest_of old) (memory_page old) (page_owners new) inode kind
-  root-now inode File is = is
-  root-now inode Dir is = is
+  root-now inode File is = λ some.
+      let h = is some in (h.0, h.1, h.2, λ number mapping mapped real. owned-now mapping.page FilePage (h.3 number mapping mapped real))
+  root-now inode Dir is = λ some.
+      let h = is some in (h.0, h.1, h.2, λ number mapping mapped real. owned-now mapping.page Directory (h.3 number mapping mapped real))
   root-now inode Pipe is = owned-now inode.root PipePage is
   root-now inode Console is = is
 
@@ -317,6 +321,12 @@ module _ (old new : Kernel) (root page : ℕ) (drops : DropsBuffer old new root 
   other-left : (other : ℕ) (owner : PageOwner) → at (page_owners new) other ≡ Some owner → other ≢ page
   other-left other owner owned same = let no : Some owner ≡ None = sym owned ∙ ap (at (page_owners new)) same ∙ owner-gone in cc
 
+  -- whoever owns another page owns it still
+  owned-left : (other : ℕ) (owner : PageOwner) → at (page_owners old) other ≡ Some owner → owner ≢ Buffer → at (page_owners new) other ≡ Some owner
+  owned-left other owner owned apart =
+      owner-left other (λ same.
+      let both : Some owner ≡ Some Buffer = sym owned ∙ ap (at (page_owners old)) same ∙ its-buffer in apart (let e : owner ≡ Buffer = cc in e)) ∙ owned
+
   -- a buffer is another domain's, and another page
   buffer-left : (other held : ℕ) → (at (domains new) other).buffer ≡ Some held → (other ≢ root) × ((at (domains old) other).buffer ≡ Some held)
   unfolding left
@@ -361,9 +371,11 @@ module _ (old new : Kernel) (root page : ℕ) (drops : DropsBuffer old new root 
     where
       owner-changed : (row : Inode) (kind : InodeKind) → IsRootOf (forest_of old) (memory_page (record old { bank = with_bank_page old page zero_page })) (page_owners old) row kind
           → IsRootOf (forest_of old) (memory_page (record old { bank = with_bank_page old page zero_page })) (page_owners new) row kind
-      owner-changed row File root = root
-      owner-changed row Dir root = root
-      owner-changed row Pipe root = owner-left row.root (λ same. let no : Some PipePage ≡ Some Buffer = sym root ∙ ap (at (page_owners old)) same ∙ its-buffer in cc) ∙ root
+      owner-changed row File root = λ some.
+          let h = root some in (h.0, h.1, h.2, λ number mapping mapped real. owned-left mapping.page FilePage (h.3 number mapping mapped real) (λ e. cc))
+      owner-changed row Dir root = λ some.
+          let h = root some in (h.0, h.1, h.2, λ number mapping mapped real. owned-left mapping.page Directory (h.3 number mapping mapped real) (λ e. cc))
+      owner-changed row Pipe root = owned-left row.root PipePage root (λ e. cc)
       owner-changed row Console root = root
 
   outside-left : (outside : Outside) (object : Object) → IsSome ((forest_of old).owner object) → outside_trees new outside object ≡ outside_trees old outside object

@@ -3,7 +3,7 @@ use Rattle.std.proofs.Common.{◌≡◌, ◌≢◌, ◌⊎◌, ℕ, Option, Some
 use Rattle.std.specs.Option.{is_some}
 use Rattle.std.proofs.lemmas.Bool.{cases_eq}
 use Rattle.kernel_tables.specs.declared.entry.PageOwner.{PageOwner}
-use Rattle.kernel_tables.specs.declared.entry.PageOwner.TheVariants.{Buffer, Pipe as PipePage}
+use Rattle.kernel_tables.specs.declared.entry.PageOwner.TheVariants.{File as FilePage, Directory, Buffer, Pipe as PipePage}
 use Rattle.kernel_tables.specs.declared.inode.Inode.{Inode}
 use Rattle.kernel_tables.specs.declared.inode.InodeKind.{InodeKind}
 use Rattle.kernel_tables.specs.declared.inode.InodeKind.TheVariants.{File, Dir, Pipe, Console}
@@ -16,6 +16,8 @@ use Rattle.space_bank.proofs.HandLaws.{handed-out}
 use Rattle.forest.specs.Calls.{DropsSpace}
 use Rattle.forest.specs.Forest.{Forest, IsSpace, NoPageOutside}
 use Rattle.forest.specs.Objects.{Object, PageObject, NodeObject, Owner, OfProcess, OfFile}
+use Rattle.kernel_forest.specs.Owners.{page_owners, PagesAreOf}
+use Rattle.forest.specs.Walks.{map_of}
 use Rattle.kernel_forest.specs.Trees.{forest_of, outside_trees, page_tree, TreesGood}
 use Rattle.kernel_forest.proofs.RowLaws.{domains_apart}
 use Rattle.file_tables.specs.Roots.{named_by}
@@ -31,12 +33,13 @@ use Rattle.kernel_machine.specs.Loose as law
 use Rattle.kernel_machine.specs.Loose.{Loose, Nothing, Space, Tree, Ring, loose_key, space_of, word_of, owned_space, IsTaken, IsLoose, HeldBut, StandingBut, outside_with}
 use Rattle.kernel_machine.specs.Machine.{inodes_of}
 use Rattle.kernel_machine.specs.Processes.{HoldingsGood}
-use Rattle.kernel_machine.specs.Standing.{Standing, page_owners}
+use Rattle.kernel_machine.specs.Standing.{Standing}
 use Rattle.kernel_machine.specs.Trees.{HasTree, IsFileTree, IsRootOf, RootsGood, KeepersGood}
 use Rattle.kernel_machine.proofs.AddStands.{outside-owned, page-outside}
 use Rattle.kernel_machine.proofs.HeldLaws.{stays}
 use Rattle.kernel_machine.proofs.KeepLaws.{trees-again}
 use Rattle.kernel_machine.proofs.LooseLaws.{loose-space, not-loose, space-or-not, word-no-space}
+use Rattle.kernel_machine.proofs.OwnerLaws.{pages-in-use}
 use Rattle.kernel_machine.proofs.SpacesStand.{memory-kept, nodes-kept, owner-kept, tree-by-memory}
 use Rattle.kernel_machine.proofs.StandingLaws.{filled-to, holdings-to, is-node, keepers-to, roots-to}
 
@@ -292,16 +295,23 @@ module _ (old new : Kernel) (space : ℕ) (owner : Owner) (drops : Drops old new
       tree-by-memory (forest_of old).keys (forest_of new).keys (memory_page old) (memory_page new) inode.root inode.length
       (memory-kept old new drops.rest bank dropped.0.held.sound drops.keeps.bytes inode.root (dropped.1.others.stay inode.root is apart) (dropped.1.others.maps inode.root is apart)) tree
 
+  pages-still : (whose : PageOwner) (inode : Inode) → inode.root ≢ space → IsSpace (forest_of old) [] inode.root
+      → PagesAreOf whose (page_owners old) (map_of (forest_of old).keys inode.root)
+      → PagesAreOf whose (page_owners new) (map_of (forest_of new).keys inode.root)
+  pages-still whose inode apart is =
+      pages-in-use whose old new inode.root (dropped.1.others.maps inode.root is apart)
+      drops.owners_now dropped.0.held.sound (dropped.1.others.stay inode.root is apart)
+
   root-left : (number : ℕ) (inode : Inode) → at (inodes_of old) number ≡ Some inode → (kind : InodeKind) → inode.kind ≡ kind
       → IsRootOf (forest_of old) (memory_page old) (page_owners old) inode kind → IsRootOf (forest_of new) (memory_page new) (page_owners new) inode kind
   root-left number inode found File kind is = λ some.
       let h = is some in
       let apart = not-inode number inode found (subst HasTree (sym kind) tt) some h.1 in
-      let now = space-left inode.root OfFile apart (h.0, h.1) in (now.0, now.1, tree-left inode apart h.0 h.2)
+      let now = space-left inode.root OfFile apart (h.0, h.1) in (now.0, now.1, tree-left inode apart h.0 h.2, pages-still FilePage inode apart h.0 h.3)
   root-left number inode found Dir kind is = λ some.
       let h = is some in
       let apart = not-inode number inode found (subst HasTree (sym kind) tt) some h.1 in
-      let now = space-left inode.root OfFile apart (h.0, h.1) in (now.0, now.1, tree-left inode apart h.0 h.2)
+      let now = space-left inode.root OfFile apart (h.0, h.1) in (now.0, now.1, tree-left inode apart h.0 h.2, pages-still Directory inode apart h.0 h.3)
   root-left number inode found Pipe kind is = owned-left inode.root PipePage refl is
   root-left number inode found Console kind is = is
 

@@ -15,6 +15,7 @@ use Rattle.space_bank.specs.Laws.{and_outside}
 use Rattle.space_bank.specs.Shares.{Outside}
 use Rattle.forest.specs.Forest.{Forest, NoPageOutside}
 use Rattle.forest.specs.Objects.{Object, PageObject}
+use Rattle.kernel_forest.specs.Owners.{page_owners}
 use Rattle.kernel_forest.specs.Trees.{forest_of, outside_trees, TreesGood}
 use Rattle.file_tables.specs.Roots.{named_by}
 use Rattle.unix_model.specs.Tables.{at, with_at}
@@ -30,7 +31,7 @@ use Rattle.kernel_machine.specs.Held.{AllHeld, NodesHeld, IsNodeOf}
 use Rattle.kernel_machine.specs.Machine.{inodes_of, machine_of}
 use Rattle.kernel_machine.specs.Processes.{HoldingsGood}
 use Rattle.kernel_machine.specs.Standing as law
-use Rattle.kernel_machine.specs.Standing.{Standing, page_owners}
+use Rattle.kernel_machine.specs.Standing.{Standing}
 use Rattle.kernel_machine.proofs.HeldLaws.{held_with_domain}
 use Rattle.kernel_machine.proofs.KeepLaws.{as-domain, free-unowned, no-keeper, other-node, outside-more, trees-again}
 use Rattle.kernel_machine.proofs.StandingLaws.{filled-to, held-to, holdings-to, holdings-with, is-node, keepers-to, roots-to}

@@ -19,6 +19,7 @@ use Rattle.space_bank.proofs.EntryLaws.{set_cases}
 use Rattle.space_bank.proofs.FreeListLaws.{entry_inside}
 use Rattle.forest.specs.Forest.{Forest, NoPageOutside}
 use Rattle.forest.specs.Objects.{Object, PageObject, NodeObject}
+use Rattle.kernel_forest.specs.Owners.{page_owners}
 use Rattle.kernel_forest.specs.Trees.{forest_of, outside_trees, outside_by, raw_names, is_counted, owner_of, tree_in, node_tree, TreesGood}
 use Rattle.file_tables.specs.Roots.{named_by}
 use Rattle.unix_model.specs.Tables.{at, with_at}
@@ -41,7 +42,7 @@ use Rattle.kernel_machine.specs.Invocations as law
 use Rattle.kernel_machine.specs.Invocations.{SlotsGoodBut}
 use Rattle.kernel_machine.specs.Machine.{KernelMachine, machine_of, inodes_of, descriptions_of}
 use Rattle.kernel_machine.specs.Processes.{IsInSlot, HasMarks}
-use Rattle.kernel_machine.specs.Standing.{Standing, page_owners}
+use Rattle.kernel_machine.specs.Standing.{Standing}
 use Rattle.kernel_machine.specs.View.{view}
 use Rattle.kernel_machine.proofs.KeepLaws.{held-same, none-more, other-node, trees-in}
 use Rattle.kernel_machine.proofs.MarksStand.{woken-in-slot, woken-only}

@@ -6,6 +6,7 @@ use Rattle.kn_base.specs.declared.key.Key.{Key}
 use Rattle.kernel_tables.specs.Kernel.{Kernel}
 use Rattle.kernel_tables.specs.Rows.{domain_rows}
 use Rattle.space_bank.specs.Bank.{BankGood}
+use Rattle.kernel_forest.specs.Owners.{page_owners}
 use Rattle.kernel_forest.specs.Trees.{forest_of}
 use Rattle.domain.specs.declared.types.Phase.{Phase}
 use Rattle.domain.specs.declared.types.Phase.TheVariants as phase
@@ -28,7 +29,7 @@ use Rattle.kernel_machine.specs.Machine.{KernelMachine, machine_of, inodes_of}
 use Rattle.kernel_machine.specs.Marks as law
 use Rattle.kernel_machine.specs.Marks.{OnlyMarks, WritesMarks, SettledButMarks, MarksFitButOn}
 use Rattle.kernel_machine.specs.Processes.{SlotsGood, IsInSlot, HasMarks, HoldingsGood}
-use Rattle.kernel_machine.specs.Standing.{Standing, page_owners}
+use Rattle.kernel_machine.specs.Standing.{Standing}
 use Rattle.kernel_machine.specs.View.{view, process_in, processes_in, memory_in, inode_in, inodes_in, descriptions_in, file_memory}
 use Rattle.kernel_machine.proofs.KeepLaws.{fixed_with_rows}
 use Rattle.kernel_machine.proofs.MachineLaws.{numbers_written}

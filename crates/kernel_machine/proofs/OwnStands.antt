@@ -8,6 +8,7 @@ use Rattle.space_bank.specs.Shares.{Outside}
 use Rattle.forest.specs.Forest.{IsSpace}
 use Rattle.forest.specs.Walks.{Mapping, map_of}
 use Rattle.kernel_forest.specs.Trees.{forest_of, TreesGood}
+use Rattle.kernel_forest.proofs.Owners.{pages-taken}
 use Rattle.seg_tree.specs.Writes.{Owns}
 use Rattle.user_copy.proofs.Pages.{found_inside}
 use Rattle.kernel_machine.specs.Standing as law
@@ -36,6 +37,8 @@ owns_leaves old new space page result owner outside trees good owns =
       spaces = owns.spaces;
       roots = changes.roots;
       memories = λ other is d. memory-by-map old new other (changes.others.maps other is d) (λ number mapping mapped. same-bytes old new space page result owner outside trees good owns other number mapping is d mapped);
+      owned = λ other whose is d.
+          pages-taken whose owner old new (map_of (forest_of old).keys other) (map_of (forest_of new).keys other) (changes.others.maps other is d) owns.owners_now;
       trees = λ all held. (owns.changes all held).0;
       inside = owns.inside;
       filled = owns.filled;

@@ -2,12 +2,13 @@
 use Rattle.std.proofs.Common.{◌≡◌, ◌≢◌, ◌<◌, ◌≤◌, ◌+◌, ◌-◌, ℕ, suc, zero, Some, None, true, false, nat_lt, List, [], ◌∷◌, length, set, get_or, refl, sym, ap, ◌∙◌, arith, ⊎_elim}
 use Rattle.std.specs.Prelude.{if◌then◌else◌}
 use Rattle.std.specs.Option.{IsSome, is_some}
-use Rattle.std.proofs.lemmas.Bool.{cases_Bool, cases_eq, cases_lt, lt-ltb, le-ltb, ne_eqb}
+use Rattle.std.proofs.lemmas.Bool.{cases_Bool, cases_eq, cases_lt, le-ltb, ne_eqb}
 use Rattle.std.proofs.lemmas.List.{length-set, get_or-set_same, get_or-set_other}
 use Rattle.kn_base.specs.declared.key.Key.TheVariants.{Page}
 use Rattle.kernel_tables.specs.declared.entry.Entry.{Entry}
 use Rattle.kernel_tables.specs.declared.entry.Entry.TheVariants.{Free, Taken, Fixed, Unspelled}
 use Rattle.kernel_tables.specs.declared.entry.PageOwner.{PageOwner}
+use Rattle.kernel_tables.specs.declared.entry.PageOwner.TheVariants.{Memory, File, Directory, Pipe, Buffer}
 use Rattle.kernel_tables.specs.declared.row.Row.{Row}
 use Rattle.kernel_tables.specs.declared.row.Row.TheVariants.{Unspelled as UnspelledRow}
 use Rattle.kernel_tables.specs.Kernel.{Kernel, kernel_of, first_page}
@@ -15,16 +16,18 @@ use Rattle.kernel_tables.proofs.Sizes.{length-bank_page}
 use Rattle.kernel_tables.specs.Rows.{entry_at}
 use Rattle.space_bank.specs.Bank.{BankGood}
 use Rattle.space_bank.specs.FreeList.{is_free}
-use Rattle.space_bank.proofs.FreeListLaws.{entry_inside}
-use Rattle.unix_model.specs.Tables.{at, with_at}
-use Rattle.forest.specs.Forest.{Forest}
-use Rattle.forest.specs.Objects.{Object, PageObject, NodeObject}
+use Rattle.unix_model.specs.Tables.{at}
+use Rattle.forest.specs.Forest.{Forest, IsSpace, Sound}
+use Rattle.forest.specs.Objects.{Object, PageObject, NodeObject, OfProcess}
+use Rattle.forest.specs.Walks.{map_of, key_at_page, page_way}
+use Rattle.forest.proofs.OwnLaws.{found_at, mapped_named, way_of_page}
+use Rattle.forest.proofs.ReachLaws.{way_owner}
+use Rattle.kernel_forest.specs.Owners.{owner_in, page_owner_of, page_owners, LeavesOwners, PagesAreOf}
 use Rattle.kernel_forest.specs.Trees.{forest_of, owner_of, tree_in, tree_shares, page_tree, raw_names}
+use Rattle.kernel_forest.proofs.Owners.{owned-entry, owned-in-bank, owned-inside, pages-left, tree-by-somebody}
+use Rattle.user_copy.proofs.Pages.{found_owned}
 use Rattle.kernel_machine.specs.Held.{AllWhole}
 use Rattle.kernel_machine.specs.Keeps as law
-use Rattle.kernel_machine.specs.Machine.{owner_in, page_owner_of}
-use Rattle.kernel_machine.specs.Standing.{page_owners}
-use Rattle.kernel_machine.proofs.ViewLaws.{changed_at}
 
 -- ---- owners
 
@@ -34,17 +37,6 @@ no-tree (Free next) owner e none = refl
 no-tree (Taken held count) owner e none = let same : held ≡ owner = cc in ap page_tree same ∙ none
 no-tree Fixed owner e none = refl
 no-tree Unspelled owner e none = refl
-
-pub owned-in-bank : (kernel : Kernel) (page : ℕ) (owner : PageOwner) → at (page_owners kernel) page ≡ Some owner → first_page kernel.size ≤ page
-unfolding page_owner_of at
-owned-in-bank kernel page owner owned = ⊎_elim
-    (λ (t : page < first_page kernel.size). let no : None ≡ Some owner = rw (lt-ltb page (first_page kernel.size) t) at owned in cc)
-    (λ (t : first_page kernel.size ≤ page). t)
-    (cases_lt page (first_page kernel.size))
-
-owned-entry : (kernel : Kernel) (page : ℕ) (owner : PageOwner) → at (page_owners kernel) page ≡ Some owner → owner_in (entry_at kernel.page_entries (page - first_page kernel.size)) ≡ Some owner
-unfolding page_owner_of at
-owned-entry kernel page owner owned = rw (le-ltb page (first_page kernel.size) (owned-in-bank kernel page owner owned)) at owned
 
 pub unowned-by : (kernel : Kernel) (page : ℕ) (owner : PageOwner) → at (page_owners kernel) page ≡ Some owner → page_tree owner ≡ None → (forest_of kernel).owner (PageObject page) ≡ None
 unfolding owner_of
@@ -69,31 +61,12 @@ free-tree (Taken owner count) free = cc
 free-tree Fixed free = refl
 free-tree Unspelled free = refl
 
-free-owner : (entry : Entry PageOwner) → is_free entry ≡ true → owner_in entry ≡ None
-free-owner (Free next) free = refl
-free-owner (Taken owner count) free = cc
-free-owner Fixed free = refl
-free-owner Unspelled free = refl
-
 pub free-in-no-tree : (kernel : Kernel) (page : ℕ) → is_free (entry_at kernel.page_entries (page - first_page kernel.size)) ≡ true → (forest_of kernel).owner (PageObject page) ≡ None
 unfolding owner_of
 free-in-no-tree kernel page free = ⊎_elim
     (λ (t : nat_lt page (first_page kernel.size) ≡ true). rw t refl)
     (λ (t : nat_lt page (first_page kernel.size) ≡ false). rw t (free-tree (entry_at kernel.page_entries (page - first_page kernel.size)) free))
     (cases_Bool (nat_lt page (first_page kernel.size)))
-
-pub free-by-nobody : (kernel : Kernel) (page : ℕ) → is_free (entry_at kernel.page_entries (page - first_page kernel.size)) ≡ true → at (page_owners kernel) page ≡ None
-unfolding page_owner_of at
-free-by-nobody kernel page free = ⊎_elim
-    (λ (t : nat_lt page (first_page kernel.size) ≡ true). rw t refl)
-    (λ (t : nat_lt page (first_page kernel.size) ≡ false). rw t (free-owner (entry_at kernel.page_entries (page - first_page kernel.size)) free))
-    (cases_Bool (nat_lt page (first_page kernel.size)))
-
--- an owned page is one of the bank's, and its entry one of those that are spelled
-pub owned-inside : (kernel : Kernel) (page : ℕ) (owner : PageOwner) → at (page_owners kernel) page ≡ Some owner → page - first_page kernel.size < length kernel.page_entries
-owned-inside kernel page owner owned =
-    entry_inside kernel.page_entries (page - first_page kernel.size)
-    (λ same. let no : None ≡ Some owner = sym (ap owner_in same) ∙ owned-entry kernel page owner owned in cc)
 
 pub owned-below : (kernel : Kernel) (page : ℕ) (owner : PageOwner) → BankGood kernel → at (page_owners kernel) page ≡ Some owner → page - first_page kernel.size < kernel.size
 owned-below kernel page owner good owned = ⊎_elim
@@ -103,17 +76,42 @@ owned-below kernel page owner good owned = ⊎_elim
     let no : None ≡ Some owner = sym (ap owner_in unused) ∙ owned-entry kernel page owner owned in cc)
     (cases_lt (page - first_page kernel.size) kernel.size)
 
--- one page has another entry
-pub owners-set : (first : ℕ) (entries : List (Entry PageOwner)) (page : ℕ) (entry : Entry PageOwner) → first ≤ page → page - first < length entries
-    → page_owner_of first (set entries (page - first) entry) ≡ with_at (page_owner_of first entries) page (owner_in entry)
-unfolding page_owner_of
-owners-set first entries page entry low inside =
-    changed_at (page_owner_of first entries) (page_owner_of first (set entries (page - first) entry)) page (owner_in entry)
-    (rw (le-ltb page first low) (ap owner_in (get_or-set_same entries (page - first) entry Unspelled inside)))
-    (λ k apart. ⊎_elim
-    (λ (t : k < first). rw (lt-ltb k first t) refl)
-    (λ (t : first ≤ k). rw (le-ltb k first t) (ap owner_in (get_or-set_other entries (page - first) (k - first) entry Unspelled (λ same. apart (omega arith)))))
-    (cases_lt k first))
+-- ---- pages of maps
+
+-- what a space maps is in use, so that it wasn't given back
+pub pages-in-use : (whose : PageOwner) (old new : Kernel) (space : ℕ) → map_of (forest_of new).keys space ≡ map_of (forest_of old).keys space
+    → LeavesOwners old new → Sound (forest_of new) → IsSpace (forest_of new) [] space
+    → PagesAreOf whose (page_owners old) (map_of (forest_of old).keys space) → PagesAreOf whose (page_owners new) (map_of (forest_of new).keys space)
+unfolding at
+pages-in-use whose old new space map leaves sound is =
+    pages-left whose old new (map_of (forest_of old).keys space) (map_of (forest_of new).keys space) map leaves
+    (λ page mapping mapped real. tree-by-somebody new mapping.page (found_owned (forest_of new) space page mapping sound is mapped real))
+
+-- The pages that the space of a process maps are memory: nothing else belongs to trees of processes.
+process-owner : (entry : Entry PageOwner) → tree_in page_tree entry ≡ Some OfProcess → owner_in entry ≡ Some Memory
+process-owner (Free next) e = cc
+process-owner (Taken Memory count) e = refl
+process-owner (Taken File count) e = cc
+process-owner (Taken Directory count) e = cc
+process-owner (Taken Pipe count) e = cc
+process-owner (Taken Buffer count) e = cc
+process-owner Fixed e = cc
+process-owner Unspelled e = cc
+
+process-page : (kernel : Kernel) (page : ℕ) → (forest_of kernel).owner (PageObject page) ≡ Some OfProcess → at (page_owners kernel) page ≡ Some Memory
+unfolding page_owner_of owner_of at
+process-page kernel page owned = ⊎_elim
+    (λ (t : nat_lt page (first_page kernel.size) ≡ true). let no : None ≡ Some OfProcess = rw t at owned in cc)
+    (λ (t : nat_lt page (first_page kernel.size) ≡ false). rw t (process-owner (entry_at kernel.page_entries (page - first_page kernel.size)) (rw t at owned)))
+    (cases_Bool (nat_lt page (first_page kernel.size)))
+
+pub memory-pages : (kernel : Kernel) (space : ℕ) → Sound (forest_of kernel) → (forest_of kernel).owner (NodeObject space) ≡ Some OfProcess
+    → PagesAreOf Memory (page_owners kernel) (map_of (forest_of kernel).keys space)
+unfolding at
+memory-pages kernel space sound owned page mapping mapped real =
+    let found = found_at (forest_of kernel).keys space page mapping mapped in
+    let ends = mapped_named (key_at_page (forest_of kernel).keys space page) mapping found.maps real in
+    process-page kernel mapping.page (way_owner (forest_of kernel) sound space (page_way page) (way_of_page page) (PageObject mapping.page) ends ∙ owned)
 
 -- ---- names
 

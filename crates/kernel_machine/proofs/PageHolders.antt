@@ -23,13 +23,14 @@ use Rattle.forest.specs.Walks.{Mapping, map_of, key_along, key_at_page, space_ke
 use Rattle.forest.proofs.OwnLaws.{owned_object, found_at, mapped_named}
 use Rattle.forest.proofs.ReachLaws.{every_page_is_mapped}
 use Rattle.forest.proofs.WalkLaws.{step}
+use Rattle.kernel_forest.specs.Owners.{page_owner_of}
 use Rattle.kernel_forest.specs.Trees.{forest_of, outside_trees, owner_of, page_tree}
 use Rattle.kernel_forest.proofs.Bridge.{page_inside}
 use Rattle.file_tables.specs.Roots.{named_by}
 use Rattle.user_copy.specs.SpaceMemory.{memory_by, page_of}
 use Rattle.domain.specs.Domains.{domains, roots_by}
 pub use Rattle.domain.proofs.SlotLaws.{slot-below}
-use Rattle.kernel_machine.specs.Machine.{machine_of, inodes_of, page_owner_of}
+use Rattle.kernel_machine.specs.Machine.{machine_of, inodes_of}
 use Rattle.kernel_machine.specs.Contents.{mapped_bytes}
 use Rattle.kernel_machine.specs.Trees.{HasTree}
 use Rattle.kernel_machine.specs.View.{memory_in, file_memory}

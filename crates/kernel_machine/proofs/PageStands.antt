@@ -4,7 +4,7 @@ use Rattle.std.proofs.lemmas.List.{length-replicate}
 use Rattle.kn_base.specs.Memory.{zero_page}
 use Rattle.kernel_tables.specs.declared.entry.Entry.TheVariants.{Free, Taken}
 use Rattle.kernel_tables.specs.declared.entry.PageOwner.{PageOwner}
-use Rattle.kernel_tables.specs.declared.entry.PageOwner.TheVariants.{Buffer, Pipe as PipePage}
+use Rattle.kernel_tables.specs.declared.entry.PageOwner.TheVariants.{File as FilePage, Directory, Buffer, Pipe as PipePage}
 use Rattle.kernel_tables.specs.declared.inode.Inode.{Inode}
 use Rattle.kernel_tables.specs.declared.inode.InodeKind.{InodeKind}
 use Rattle.kernel_tables.specs.declared.inode.InodeKind.TheVariants.{File, Dir, Pipe, Console}
@@ -17,7 +17,9 @@ use Rattle.space_bank.proofs.EntryLaws.{free_spelled}
 use Rattle.space_bank.proofs.FreeListLaws.{entry_inside}
 use Rattle.forest.specs.Forest.{Forest, NoPageOutside}
 use Rattle.forest.specs.Objects.{PageObject}
+use Rattle.kernel_forest.specs.Owners.{page_owners}
 use Rattle.kernel_forest.specs.Trees.{forest_of, outside_trees, TreesGood}
+use Rattle.kernel_forest.proofs.Owners.{free-by-nobody, owned-in-bank, owned-inside, owners-set}
 use Rattle.file_tables.specs.Roots.{named_by, pipe_key}
 use Rattle.file_tables.proofs.PageLaws.{page_taken, page_given_back}
 use Rattle.unix_model.specs.Tables.{at, with_at}
@@ -29,11 +31,11 @@ use Rattle.kernel_machine.specs.Loose as law
 use Rattle.kernel_machine.specs.Loose.{Nothing, Space, Tree, Ring, IsLoose, HeldBut, StandingBut, outside_with}
 use Rattle.kernel_machine.specs.Machine.{inodes_of}
 use Rattle.kernel_machine.specs.Processes.{HoldingsGood}
-use Rattle.kernel_machine.specs.Standing.{Standing, page_owners}
+use Rattle.kernel_machine.specs.Standing.{Standing}
 use Rattle.kernel_machine.specs.Trees.{IsRootOf, RootsGood}
 use Rattle.kernel_machine.proofs.KeepLaws.{outside-more}
 use Rattle.kernel_machine.proofs.LooseLaws.{ring-word, word-ring}
-use Rattle.kernel_machine.proofs.OwnerLaws.{free-by-nobody, free-in-no-tree, free-tree, none-shares, other-page, owned-below, owned-in-bank, owned-inside, owned-no-tree, owners-set, unowned-by, whole-set}
+use Rattle.kernel_machine.proofs.OwnerLaws.{free-in-no-tree, free-tree, none-shares, other-page, owned-below, owned-no-tree, unowned-by, whole-set}
 use Rattle.kernel_machine.proofs.MemoryLaws.{page-of}
 use Rattle.kernel_machine.proofs.RootStands.{ring-real}
 use Rattle.kernel_machine.proofs.StandingLaws.{filled-to, keepers-to, root-same}
@@ -75,8 +77,10 @@ module _ (old new : Kernel) (page : ℕ) (takes : TakesPage old new page PipePag
   owned-now other owner owned = owner-there other (owned-other other owner owned) ∙ owned
 
   root-now : (inode : Inode) (kind : InodeKind) → IsRootOf (forest_of old) (memory_page old) (page_owners old) inode kind → IsRootOf (forest_of old) (memory_page old) (page_owners new) inode kind
-  root-now inode File is = is
-  root-now inode Dir is = is
+  root-now inode File is = λ some.
+      let h = is some in (h.0, h.1, h.2, λ number mapping mapped real. owned-now mapping.page FilePage (h.3 number mapping mapped real))
+  root-now inode Dir is = λ some.
+      let h = is some in (h.0, h.1, h.2, λ number mapping mapped real. owned-now mapping.page Directory (h.3 number mapping mapped real))
   root-now inode Pipe is = owned-now inode.root PipePage is
   root-now inode Console is = is
 
@@ -191,13 +195,17 @@ module _ (old new : Kernel) (page : ℕ) (given : new ≡ page_given old (page -
   owned-before : (other : ℕ) (owner : PageOwner) → at (page_owners new) other ≡ Some owner → at (page_owners old) other ≡ Some owner
   owned-before other owner owned = sym (owner-left other (other-left other owner owned)) ∙ owned
 
+  -- whoever owns another page owns it still
+  owned-left : (other : ℕ) (owner : PageOwner) → at (page_owners old) other ≡ Some owner → owner ≢ PipePage → at (page_owners new) other ≡ Some owner
+  owned-left other owner owned apart =
+      owner-left other (λ same.
+      let both : Some owner ≡ Some PipePage = sym owned ∙ ap (at (page_owners old)) same ∙ its-owner in apart (let e : owner ≡ PipePage = cc in e)) ∙ owned
+
   holdings-left : HoldingsGood (domains old) (forest_of old) (page_owners new)
   holdings-left =
       record {
         spaces = standing.holdings.spaces;
-        buffers = λ root held has.
-            let was = standing.holdings.buffers root held has in
-            owner-left held (λ same. let no : Some Buffer ≡ Some PipePage = sym was ∙ ap (at (page_owners old)) same ∙ its-owner in cc) ∙ was;
+        buffers = λ root held has. owned-left held Buffer (standing.holdings.buffers root held has) (λ e. cc);
         spaces_differ = standing.holdings.spaces_differ;
         buffers_differ = standing.holdings.buffers_differ;
       }
@@ -214,8 +222,10 @@ module _ (old new : Kernel) (page : ℕ) (given : new ≡ page_given old (page -
   root-left : (number : ℕ) (inode : Inode) → at (inodes_of old) number ≡ Some inode → (kind : InodeKind) → inode.kind ≡ kind
       → IsRootOf (forest_of old) (memory_page (record old { bank = with_bank_page old page zero_page })) (page_owners old) inode kind
       → IsRootOf (forest_of old) (memory_page (record old { bank = with_bank_page old page zero_page })) (page_owners new) inode kind
-  root-left number inode found File kind is = is
-  root-left number inode found Dir kind is = is
+  root-left number inode found File kind is = λ some.
+      let h = is some in (h.0, h.1, h.2, λ page mapping mapped real. owned-left mapping.page FilePage (h.3 page mapping mapped real) (λ e. cc))
+  root-left number inode found Dir kind is = λ some.
+      let h = is some in (h.0, h.1, h.2, λ page mapping mapped real. owned-left mapping.page Directory (h.3 page mapping mapped real) (λ e. cc))
   root-left number inode found Pipe kind is =
       owner-left inode.root (λ same.
       let no : Ring page ≡ Nothing = standing.is_loose.no_root number inode found (ring-word inode.kind inode.root kind (ring-real old inode.root is) ∙ ap Ring same) in cc) ∙ is

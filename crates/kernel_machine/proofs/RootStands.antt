@@ -15,7 +15,9 @@ use Rattle.space_bank.specs.Bank.{BankGood}
 use Rattle.space_bank.specs.Laws.{and_outside}
 use Rattle.space_bank.specs.Shares.{Outside}
 use Rattle.forest.specs.Forest.{IsSpace, NoPageOutside}
+use Rattle.kernel_forest.specs.Owners.{page_owners}
 use Rattle.kernel_forest.specs.Trees.{forest_of, outside_trees, owner_of, tree_in, node_tree, TreesGood}
+use Rattle.kernel_forest.proofs.Owners.{owned-in-bank}
 use Rattle.file_tables.specs.Numbers.{TakesInode, fresh_inode}
 use Rattle.file_tables.specs.Roots.{named_by, root_key, ExchangesRoots}
 use Rattle.file_tables.specs.Rows.{InodesGood}
@@ -26,12 +28,11 @@ use Rattle.domain.specs.Domains.{domains}
 use Rattle.kernel_machine.specs.Loose as law
 use Rattle.kernel_machine.specs.Loose.{Loose, Nothing, Space, Tree, Ring, loose_key, word_of, root_of, IsTaken, IsLoose, HeldBut, StandingBut, IsRowRoot, outside_with}
 use Rattle.kernel_machine.specs.Machine.{KernelMachine, machine_of, inodes_of, held}
-use Rattle.kernel_machine.specs.Standing.{page_owners}
 use Rattle.kernel_machine.specs.Trees.{HasTree, IsRootOf, RootsGood}
 use Rattle.kernel_machine.proofs.LooseLaws.{loose-root, nothing_loose, ring-or-not, ring-word, tree-or-not, tree-word, word-no-space, word-ring, word-tree}
 use Rattle.kernel_machine.proofs.MachineLaws.{inode_written}
 use Rattle.kernel_machine.proofs.MemoryLaws.{page-of, tree-of}
-use Rattle.kernel_machine.proofs.OwnerLaws.{owned-in-bank, row-inside}
+use Rattle.kernel_machine.proofs.OwnerLaws.{row-inside}
 
 -- ---- what has a root
 

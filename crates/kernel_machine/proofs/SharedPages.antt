@@ -35,14 +35,14 @@ use Rattle.kernel_machine.proofs.PagesLeft.{live-left, blank_is_left}
 unfoldable pub maps-but : (ℕ → Key) → ℕ → ℕ → ℕ → Bool
 maps-but keys space skip page = any_below (λ number. not (number == skip) && is_label page (shared_page keys (space, number))) (2 ^ 19)
 
-and-right : (a b : Bool) → (a && b) ≡ true → b ≡ true
+pub and-right : (a b : Bool) → (a && b) ≡ true → b ≡ true
 and-right true b e = e
 and-right false b e = absurd (cc)
 
-not-but : (b : Bool) → b ≡ true → (c : Bool) → (not b && c) ≡ false
+pub not-but : (b : Bool) → b ≡ true → (c : Bool) → (not b && c) ≡ false
 not-but b e c = rw e refl
 
-but-label : (keys : ℕ → Key) (space skip first size number : ℕ) → count_below (λ n. not (number == skip) && is_label (first + n) (shared_page keys (space, number))) size
+pub but-label : (keys : ℕ → Key) (space skip first size number : ℕ) → count_below (λ n. not (number == skip) && is_label (first + n) (shared_page keys (space, number))) size
     ≤ count_below (λ n. is_label (first + n) (shared_page keys (space, number))) size
 but-label keys space skip first size number =
     count-less (λ n. not (number == skip) && is_label (first + n) (shared_page keys (space, number))) (λ n. is_label (first + n) (shared_page keys (space, number))) size
@@ -64,7 +64,7 @@ but-few machine first size space skip found is =
     omega arith
 
 -- of another page it makes no difference
-label-apart : (page other : ℕ) (label : Option ℕ) → label ≡ Some other → page ≢ other → is_label page label ≡ false
+pub label-apart : (page other : ℕ) (label : Option ℕ) → label ≡ Some other → page ≢ other → is_label page label ≡ false
 label-apart page other label e apart = ap (is_label page) e ∙ ne_eqb other page (λ s. apart (sym s))
 
 but-same : (keys : ℕ → Key) (space skip other page : ℕ) → shared_page keys (space, skip) ≡ Some other → page ≢ other → maps-but keys space skip page ≡ maps keys (Some space) (2 ^ 19) page

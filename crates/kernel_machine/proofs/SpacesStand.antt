@@ -23,6 +23,7 @@ use Rattle.forest.specs.Forest.{Forest, IsSpace, NoPageOutside, Sound}
 use Rattle.forest.specs.Objects.{PageObject, NodeObject, Owner, OfProcess, OfFile}
 use Rattle.forest.specs.Calls.{ChangesMap}
 use Rattle.forest.specs.Walks.{Mapping, map_of}
+use Rattle.kernel_forest.specs.Owners.{owner_in, page_owner_of, page_owners, PagesAreOf}
 use Rattle.kernel_forest.proofs.Bridge.{page_inside}
 use Rattle.kernel_forest.proofs.Moves.{bank_page as its_page}
 use Rattle.kernel_forest.specs.Apart.{KeepsApart}
@@ -30,6 +31,7 @@ use Rattle.kernel_forest.specs.Releases.{KeepsUnreleased}
 use Rattle.kernel_forest.specs.Trees.{forest_of, outside_trees, page_tree, TreesGood}
 use Rattle.kernel_forest.proofs.ApartLaws.{page_stays_apart, node_stays_apart}
 use Rattle.kernel_forest.proofs.GivingNodes.{unreleased}
+use Rattle.kernel_forest.proofs.Owners.{pages-kept, pages-taken}
 use Rattle.kernel_forest.proofs.RowLaws.{domains_apart}
 use Rattle.file_tables.specs.Roots.{named_by}
 use Rattle.kn_base.specs.declared.key.Key.{Key}
@@ -37,20 +39,22 @@ use Rattle.unix_model.specs.Memory.{Memory, Page}
 use Rattle.unix_model.specs.Numbers.{pages_of}
 use Rattle.unix_model.specs.Tables.{at}
 use Rattle.user_copy.specs.SpaceMemory.{memory_by, page_of, space_memory}
+use Rattle.user_copy.specs.Writing.{owner_for}
 use Rattle.user_copy.proofs.Pages.{found_owned}
 use Rattle.domain.specs.Domains.{Domain, domains, domain_at}
 use Rattle.domain.specs.Rules.{RowsGood}
 use Rattle.kernel_machine.specs.Contents.{pages_in}
 use Rattle.kernel_machine.specs.Held.{AllWhole, NodesHeld}
-use Rattle.kernel_machine.specs.Machine.{inodes_of, owner_in, page_owner_of}
+use Rattle.kernel_machine.specs.Machine.{inodes_of}
 use Rattle.kernel_machine.specs.Processes.{HoldingsGood}
 use Rattle.kernel_machine.proofs.LooseLaws.{not-loose, nothing_loose}
 use Rattle.kernel_machine.proofs.MemoryLaws.{made-same}
+use Rattle.kernel_machine.proofs.OwnerLaws.{pages-in-use}
 use Rattle.kernel_machine.specs.Loose as law
 use Rattle.kernel_machine.specs.Loose.{Loose, Nothing, Space, Tree, Ring, loose_key, IsTaken, IsLoose, HeldBut, StandingBut, outside_with}
 use Rattle.kernel_machine.specs.Standing as standing_law
-use Rattle.kernel_machine.specs.Standing.{LeavesSpaces, page_owners}
-use Rattle.kernel_machine.specs.Trees.{HasTree, IsFileTree, IsRootOf, RootsGood, KeepersGood, ends_in_zeros}
+use Rattle.kernel_machine.specs.Standing.{LeavesSpaces}
+use Rattle.kernel_machine.specs.Trees.{HasTree, IsFileTree, IsRootOf, RootsGood, KeepersGood, ends_in_zeros, pages_owner}
 
 -- ---- what belongs to no tree
 
@@ -87,6 +91,11 @@ nodes-kept old new rows apart held = subst (λ rows. NodesHeld rows new.node_ent
     let taken = domain-taken (entry_at new.node_entries node) mine in
     let was = (node_stays_apart old new node DomainNode taken.0 apart refl).1 taken.1 in
     held node (ap of_domain was))
+
+-- a tree of a file or directory of a length, with pages of one owner
+abbrev IsTreeOf : Kernel → PageOwner → (root size : ℕ) → Type 0
+IsTreeOf kernel whose root size =
+    IsFileTree (forest_of kernel).keys (memory_page kernel) root size × PagesAreOf whose (page_owners kernel) (map_of (forest_of kernel).keys root)
 
 module _ (old new : Kernel) (space : ℕ) (loose : Loose) (leaves : LeavesSpaces old new space) (bank : BankGood new) (whole : AllWhole new.bank) (standing : StandingBut old loose) where
   size-same : new.size ≡ old.size
@@ -177,10 +186,10 @@ module _ (old new : Kernel) (space : ℕ) (loose : Loose) (leaves : LeavesSpaces
         is_loose = loose-good;
       }
 
-  -- the roots of files, where each of their trees is one still
+  -- the roots of files, where each of their trees is one still, and its pages are one owner's
   roots-with : ((number : ℕ) (inode : Inode) → at (inodes_of old) number ≡ Some inode → HasTree inode.kind → inode.root ≢ 0
-      → IsSpace (forest_of old) [] inode.root → (forest_of old).owner (NodeObject inode.root) ≡ Some OfFile → IsFileTree (forest_of old).keys (memory_page old) inode.root inode.length
-      → IsFileTree (forest_of new).keys (memory_page new) inode.root inode.length)
+      → IsSpace (forest_of old) [] inode.root → (forest_of old).owner (NodeObject inode.root) ≡ Some OfFile
+      → IsTreeOf old (pages_owner inode.kind) inode.root inode.length → IsTreeOf new (pages_owner inode.kind) inode.root inode.length)
       → RootsGood (forest_of new) (memory_page new) (page_owners new) (inodes_of old)
   roots-with trees =
       record {
@@ -191,10 +200,16 @@ module _ (old new : Kernel) (space : ℕ) (loose : Loose) (leaves : LeavesSpaces
     where
       root-now : (inode : Inode) (kind : InodeKind)
           → (HasTree kind → inode.root ≢ 0 → IsSpace (forest_of old) [] inode.root → (forest_of old).owner (NodeObject inode.root) ≡ Some OfFile
-          → IsFileTree (forest_of old).keys (memory_page old) inode.root inode.length → IsFileTree (forest_of new).keys (memory_page new) inode.root inode.length)
+          → IsTreeOf old (pages_owner kind) inode.root inode.length → IsTreeOf new (pages_owner kind) inode.root inode.length)
           → IsRootOf (forest_of old) (memory_page old) (page_owners old) inode kind → IsRootOf (forest_of new) (memory_page new) (page_owners new) inode kind
-      root-now inode File tree is = λ some. let h = is some in let now = space-now inode.root OfFile (h.0, h.1) in (now.0, now.1, tree tt some h.0 h.1 h.2)
-      root-now inode Dir tree is = λ some. let h = is some in let now = space-now inode.root OfFile (h.0, h.1) in (now.0, now.1, tree tt some h.0 h.1 h.2)
+      root-now inode File tree is = λ some.
+          let h = is some in
+          let now = space-now inode.root OfFile (h.0, h.1) in
+          let still = tree tt some h.0 h.1 (h.2, h.3) in (now.0, now.1, still.0, still.1)
+      root-now inode Dir tree is = λ some.
+          let h = is some in
+          let now = space-now inode.root OfFile (h.0, h.1) in
+          let still = tree tt some h.0 h.1 (h.2, h.3) in (now.0, now.1, still.0, still.1)
       root-now inode Pipe tree is = owned-now inode.root PipePage refl is
       root-now inode Console tree is = is
 
@@ -240,6 +255,8 @@ remap_leaves old new space few map outside trees remaps =
       spaces = spaces-same (forest_of old) (forest_of new) space map changes;
       roots = changes.roots;
       memories = λ other is d. ap₂ memory_by (ap memory_page remaps.rest) (changes.others.maps other is d);
+      owned = λ other whose is d.
+          pages-kept whose old new (map_of (forest_of old).keys other) (map_of (forest_of new).keys other) (changes.others.maps other is d) remaps.owners_now;
       trees = λ all good. (remaps.changes all good).0;
       inside = λ all good. remaps.inside all;
       filled = remaps.filled;
@@ -283,6 +300,8 @@ replace_leaves old new space few map outside trees good replaces =
       spaces = spaces-same (forest_of old) (forest_of new) space map changes;
       roots = changes.roots;
       memories = λ other is d. memory-kept old new replaces.rest good after.0.held.sound replaces.bytes other (changes.others.stay other is d) (changes.others.maps other is d);
+      owned = λ other whose is d.
+          pages-in-use whose old new other (changes.others.maps other is d) replaces.owners_now after.0.held.sound (changes.others.stay other is d);
       trees = λ all held. (replaces.changes all held).0;
       inside = λ all held. replaces.inside all;
       filled = replaces.filled;
@@ -291,11 +310,13 @@ replace_leaves old new space few map outside trees good replaces =
       rest = replaces.rest;
     }
 
-pub put_leaves : standing_law.PutLeaves
-put_leaves old new space place bytes puts = record {
-  spaces = puts.spaces;
-  roots = puts.roots;
+pub piece_leaves : standing_law.PieceLeaves
+piece_leaves old new space place bytes owner puts = record {
+  spaces = puts.owns.spaces;
+  roots = puts.owns.roots;
   memories = puts.others;
+  owned = λ other whose is d.
+      pages-taken whose owner old new (map_of (forest_of old).keys other) (map_of (forest_of new).keys other) (puts.owns.others other is d) puts.owners_now;
   trees = puts.trees;
   inside = puts.inside;
   filled = puts.filled;
@@ -304,23 +325,46 @@ put_leaves old new space place bytes puts = record {
   rest = puts.rest;
 }
 
+pub put_leaves : standing_law.PutLeaves
+put_leaves old new space place bytes puts = record {
+  spaces = puts.spaces;
+  roots = puts.roots;
+  memories = puts.others;
+  owned = λ other whose is d.
+      pages-taken whose (owner_for old space) old new (map_of (forest_of old).keys other) (map_of (forest_of new).keys other) (puts.maps other is d) puts.owners_now;
+  trees = puts.trees;
+  inside = puts.inside;
+  filled = puts.filled;
+  rows_now = puts.rows_now;
+  apart_now = puts.apart_now;
+  rest = puts.rest;
+}
+
+-- a tree that is another one than the space
+tree-left : (old new : Kernel) (space : ℕ) → LeavesSpaces old new space → (inode : Inode) → IsSpace (forest_of old) [] inode.root → inode.root ≢ space
+    → IsTreeOf old (pages_owner inode.kind) inode.root inode.length → IsTreeOf new (pages_owner inode.kind) inode.root inode.length
+tree-left old new space leaves inode is apart tree = (
+  tree-by-memory (forest_of old).keys (forest_of new).keys (memory_page old) (memory_page new) inode.root inode.length
+      (leaves.memories inode.root is apart) tree.0,
+  leaves.owned inode.root (pages_owner inode.kind) is apart tree.1,
+)
+
 -- the space of a process is another one, and trees of files are as they were
 but-memory : (old new : Kernel) (space : ℕ) (loose : Loose) → LeavesSpaces old new space → (forest_of old).owner (NodeObject space) ≡ Some OfProcess → BankGood new → AllWhole new.bank
     → StandingBut old loose → StandingBut new loose
 but-memory old new space loose leaves owner bank whole standing =
     stands-with old new space loose leaves bank whole standing (roots-with old new space loose leaves bank whole standing
     (λ number inode there tree some is owned file.
-    tree-by-memory (forest_of old).keys (forest_of new).keys (memory_page old) (memory_page new) inode.root inode.length
-    (leaves.memories inode.root is (λ same. let no : Some OfFile ≡ Some OfProcess = sym owned ∙ ap (λ n. (forest_of old).owner (NodeObject n)) same ∙ owner in cc)) file))
+    tree-left old new space leaves inode is
+    (λ same. let no : Some OfFile ≡ Some OfProcess = sym owned ∙ ap (λ n. (forest_of old).owner (NodeObject n)) same ∙ owner in cc) file))
 
 -- a tree that no inode has is another one
 but-tree : (old new : Kernel) (space : ℕ) → LeavesSpaces old new space → BankGood new → AllWhole new.bank → StandingBut old (Tree space) → StandingBut new (Tree space)
 but-tree old new space leaves bank whole standing =
     stands-with old new space (Tree space) leaves bank whole standing (roots-with old new space (Tree space) leaves bank whole standing
     (λ number inode there tree some is owned file.
-    tree-by-memory (forest_of old).keys (forest_of new).keys (memory_page old) (memory_page new) inode.root inode.length
-    (leaves.memories inode.root is
-    (not-loose OfFile space (domains old) (forest_of old) (page_owners old) (inodes_of old) standing.is_loose number inode there tree some owned)) file))
+    tree-left old new space leaves inode is
+    (not-loose OfFile space (domains old) (forest_of old) (page_owners old) (inodes_of old) standing.is_loose number inode there tree some owned) file))
 
 pub standing_with_loose : law.StandingWithLoose
 standing_with_loose old new space OfProcess leaves bank whole standing = but-memory old new space (Space space) leaves standing.is_loose.taken.1 bank whole standing
@@ -331,7 +375,7 @@ standing_with_memory old new space leaves owner bank whole standing =
     (nothing_loose new).1 (but-memory old new space Nothing leaves owner bank whole ((nothing_loose old).0 standing))
 
 pub standing_with_tree : standing_law.StandingWithTree
-standing_with_tree old new space number inode leaves there tree root file bank whole standing =
+standing_with_tree old new space number inode leaves there tree root file pages bank whole standing =
     let but = (nothing_loose old).0 standing in
     (nothing_loose new).1
     (stands-with old new space Nothing leaves bank whole but (roots-with old new space Nothing leaves bank whole but
@@ -339,9 +383,8 @@ standing_with_tree old new space number inode leaves there tree root file bank w
     (λ (t : other ≡ number).
     let both : Some inode ≡ Some row = sym there ∙ ap (at (inodes_of old)) (sym t) ∙ found in
     let same : inode ≡ row = cc in
-    subst (λ (i : Inode). IsFileTree (forest_of new).keys (memory_page new) i.root i.length) same
-    (subst (λ n. IsFileTree (forest_of new).keys (memory_page new) n inode.length) (sym root) file))
+    subst (λ (i : Inode). IsTreeOf new (pages_owner i.kind) i.root i.length) same
+    (subst (λ n. IsTreeOf new (pages_owner inode.kind) n inode.length) (sym root) (file, pages)))
     (λ (d : other ≢ number).
-    tree-by-memory (forest_of old).keys (forest_of new).keys (memory_page old) (memory_page new) row.root row.length
-    (leaves.memories row.root is (λ same. d (standing.roots.trees_differ other number row inode found there has tree some (same ∙ sym root)))) before)
+    tree-left old new space leaves row is (λ same. d (standing.roots.trees_differ other number row inode found there has tree some (same ∙ sym root))) before)
     (cases_eq other number))))

@@ -21,9 +21,11 @@ use Rattle.forest.specs.Objects.{Object, PageObject}
 use Rattle.forest.specs.Walks.{Mapping, map_of, key_at_page, page_way}
 use Rattle.forest.proofs.CopyLaws.{end_owned}
 use Rattle.forest.proofs.OwnLaws.{found_at, mapped_named}
+use Rattle.kernel_forest.specs.Owners.{page_owners}
 use Rattle.kernel_forest.proofs.Bridge.{page_inside}
 use Rattle.kernel_forest.proofs.Moves.{bank_page as its_page}
 use Rattle.kernel_forest.specs.Trees.{forest_of, outside_trees, page_tree, TreesGood}
+use Rattle.kernel_forest.proofs.Owners.{owned-in-bank}
 use Rattle.file_tables.specs.Roots.{named_by, root_key, word_key}
 use Rattle.file_tables.specs.Rows.{InodesGood, DescriptionsGood}
 use Rattle.file_tables.proofs.RootLaws.{kept, trees_beside}
@@ -43,13 +45,13 @@ use Rattle.kernel_machine.specs.Held.{AllHeld, IsNodeOf}
 use Rattle.kernel_machine.specs.Machine.{KernelMachine, machine_of, inodes_of, held}
 use Rattle.kernel_machine.specs.Processes.{IsInSlot, HoldingsGood}
 use Rattle.kernel_machine.specs.Standing as law
-use Rattle.kernel_machine.specs.Standing.{Standing, Settled, HasSame, page_owners}
+use Rattle.kernel_machine.specs.Standing.{Standing, Settled, HasSame}
 use Rattle.kernel_machine.specs.Trees.{HasTree, IsFileTree, IsRootOf, RootsGood, KeepersGood}
 use Rattle.kernel_machine.proofs.HeldLaws.{stays, held_with_domain, held_with_inode}
 use Rattle.kernel_machine.proofs.KeepLaws.{trees_with_numbers}
 use Rattle.kernel_machine.proofs.MachineLaws.{inode_written}
 use Rattle.kernel_machine.proofs.MemoryLaws.{made-same}
-use Rattle.kernel_machine.proofs.OwnerLaws.{owned-in-bank, unowned-by, whole-set}
+use Rattle.kernel_machine.proofs.OwnerLaws.{unowned-by, whole-set}
 
 -- ---- both together
 
@@ -408,8 +410,8 @@ module _ (old : Kernel) (page : ℕ) (owner : PageOwner) (bytes : List ℕ) (own
   tree-same root size is tree = record { some_page = tree.some_page; within = tree.within; writable = tree.writable; zeros = rw (same-memory root is) tree.zeros }
 
   pub root-same : (inode : Inode) (kind : InodeKind) → IsRootOf (forest_of old) (memory_page old) (page_owners old) inode kind → IsRootOf (forest_of old) (memory_page written) (page_owners old) inode kind
-  root-same inode File is = λ some. let h = is some in (h.0, h.1, tree-same inode.root inode.length h.0 h.2)
-  root-same inode Dir is = λ some. let h = is some in (h.0, h.1, tree-same inode.root inode.length h.0 h.2)
+  root-same inode File is = λ some. let h = is some in (h.0, h.1, tree-same inode.root inode.length h.0 h.2, h.3)
+  root-same inode Dir is = λ some. let h = is some in (h.0, h.1, tree-same inode.root inode.length h.0 h.2, h.3)
   root-same inode Pipe is = is
   root-same inode Console is = is
 

@@ -13,10 +13,11 @@ use Rattle.space_bank.specs.Bank.{BankGood}
 use Rattle.space_bank.specs.FreeList.{taken_one, taken_count}
 use Rattle.forest.specs.Forest.{NoPageOutside}
 use Rattle.forest.specs.Objects.{Object, PageObject, NodeObject, Owner}
+use Rattle.kernel_forest.specs.Owners.{owner_in, page_owner_of}
 use Rattle.kernel_forest.specs.Trees.{forest_of, outside_trees, owner_of, tree_in, page_tree, node_tree}
 use Rattle.file_tables.specs.Roots.{named_by}
 use Rattle.unix_model.specs.Tables.{at}
-use Rattle.kernel_machine.specs.Machine.{machine_of, owner_in, page_owner_of}
+use Rattle.kernel_machine.specs.Machine.{machine_of}
 use Rattle.kernel_machine.specs.Bounds as law
 
 pub none-taken : {O : Type 0} (entries : List (Entry O)) (n : ℕ) → sum_by taken_one entries ≡ 0 → taken_one (entry_at entries n) ≡ 0

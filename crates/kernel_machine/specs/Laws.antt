@@ -11,6 +11,7 @@ use Rattle.kernel_tables.specs.declared.entry.PageOwner.TheVariants.{Buffer, Pip
 use Rattle.kernel_tables.specs.declared.inode.InodeKind.TheVariants.{Pipe}
 use Rattle.forest.specs.Forest.{IsSpace}
 use Rattle.forest.specs.Walks.{Mapping, map_of}
+use Rattle.kernel_forest.specs.Owners.{page_owner_of}
 use Rattle.kernel_forest.specs.Trees.{forest_of}
 use Rattle.file_tables.specs.Laws.{WritesFiles}
 use Rattle.unix_model.specs.Files.{with_inode, with_description}
@@ -18,7 +19,7 @@ use Rattle.unix_model.specs.State.{with_process, without_process, with_files}
 use Rattle.unix_model.specs.Tables.{at, with_at}
 use Rattle.domain.specs.Domains.{Domain, Life, domains, lives}
 use Rattle.domain.specs.Sets.{WritesNumbers, HandsOver}
-use Rattle.kernel_machine.specs.Machine.{KernelMachine, machine_of, inodes_of, descriptions_of, page_owner_of, held}
+use Rattle.kernel_machine.specs.Machine.{KernelMachine, machine_of, inodes_of, descriptions_of, held}
 use Rattle.kernel_machine.specs.View.{view, memory_in, process_in, inode_in, description_in, files_in}
 use Rattle.kernel_machine.specs.Processes.{HoldingsGood, SlotsGood}
 use Rattle.kernel_machine.specs.Trees.{HasTree, RootsGood}

@@ -19,6 +19,7 @@ use Rattle.space_bank.specs.Shares.{Outside, PutsPageInHand, TakesPageOutOfHand}
 use Rattle.forest.specs.Forest.{Forest, IsSpace, NoneEmpty, NoPageOutside}
 use Rattle.forest.specs.Objects.{NodeObject, Owner, OfFile, OfProcess}
 use Rattle.forest.specs.Walks.{Mapping, space_key}
+use Rattle.kernel_forest.specs.Owners.{page_owners}
 use Rattle.kernel_forest.specs.Trees.{forest_of, outside_trees, TreesGood}
 use Rattle.file_tables.specs.Numbers.{TakesInode}
 use Rattle.file_tables.specs.Roots.{named_by, pipe_key, ExchangesRoots}
@@ -33,7 +34,7 @@ use Rattle.unix_model.specs.Tables.{at, with_at}
 use Rattle.kernel_machine.specs.Held.{AllWhole, NodesHeld}
 use Rattle.kernel_machine.specs.Machine.{inodes_of}
 use Rattle.kernel_machine.specs.Processes.{HoldingsGood}
-use Rattle.kernel_machine.specs.Standing.{Standing, LeavesSpaces, page_owners}
+use Rattle.kernel_machine.specs.Standing.{Standing, LeavesSpaces}
 use Rattle.kernel_machine.specs.Trees.{HasTree, IsRootOf, RootsGood, KeepersGood, keeper}
 
 -- what is loose: nothing, the space of a process, the tree of a file or directory, or the page of a pipe

@@ -1,18 +1,17 @@
 -- The machine in which servers speak: one record, and one function of the kernel's tables.
-use Rattle.std.specs.Prelude.{ℕ, ◌-◌, nat_lt, if◌then◌else◌, Option, Some, None, List}
+use Rattle.std.specs.Prelude.{ℕ, Option, Some, None, List}
 use Rattle.kn_base.specs.declared.key.Key.{Key}
 use Rattle.kernel_tables.specs.declared.row.Row.{Row}
 use Rattle.kernel_tables.specs.declared.row.Row.TheVariants.{Free, Used, Unspelled}
 use Rattle.kernel_tables.specs.declared.inode.Inode.{Inode}
 use Rattle.kernel_tables.specs.declared.description.Description.{Description}
 use Rattle.kernel_tables.specs.declared.entry.PageOwner.{PageOwner}
-use Rattle.kernel_tables.specs.declared.entry.Entry.{Entry}
-use Rattle.kernel_tables.specs.declared.entry.Entry.TheVariants as entry
 use Rattle.kernel_tables.specs.declared.machine.Machine.{Machine as Words}
-use Rattle.kernel_tables.specs.Kernel.{Kernel, first_page, inode_at, description_at, memory_page}
-use Rattle.kernel_tables.specs.Rows.{entry_at, fixed_rows}
+use Rattle.kernel_tables.specs.Kernel.{Kernel, inode_at, description_at, memory_page}
+use Rattle.kernel_tables.specs.Rows.{fixed_rows}
 use Rattle.forest.specs.Forest.{Forest}
 use Rattle.kernel_forest.specs.Trees.{forest_of}
+use Rattle.kernel_forest.specs.Owners.{page_owners}
 use Rattle.domain.specs.Domains.{Domain as Process, Life, domains, lives, roots}
 use Rattle.domain.specs.Slots.{room_of}
 
@@ -37,16 +36,6 @@ held Free = None
 held (Used x) = Some x
 held Unspelled = None
 
--- who owns an object
-abbrev pub owner_in : {O : Type 0} → Entry O → Option O
-owner_in (entry.Free next) = None
-owner_in (entry.Taken owner count) = Some owner
-owner_in entry.Fixed = None
-owner_in entry.Unspelled = None
-
-unfoldable pub page_owner_of : ℕ → List (Entry PageOwner) → ℕ → Option PageOwner
-page_owner_of first entries = λ page. if nat_lt page first then None else owner_in (entry_at entries (page - first))
-
 -- the inodes and the descriptions that are there
 unfoldable pub inodes_of : Kernel → ℕ → Option Inode
 inodes_of kernel = λ number. held (inode_at kernel number)
@@ -64,7 +53,7 @@ machine_of kernel =
       domains = domains kernel;
       forest = forest_of kernel;
       page_bytes = memory_page kernel;
-      page_owner = page_owner_of (first_page kernel.size) kernel.page_entries;
+      page_owner = page_owners kernel;
       inodes = inodes_of kernel;
       descriptions = descriptions_of kernel;
       words = kernel.machine;

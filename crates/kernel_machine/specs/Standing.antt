@@ -8,7 +8,7 @@ use Rattle.kernel_tables.specs.declared.entry.PageOwner.{PageOwner}
 use Rattle.kernel_tables.specs.declared.inode.Inode.{Inode}
 use Rattle.kernel_tables.specs.declared.row.Row.{Row}
 use Rattle.kernel_tables.specs.declared.row.Row.TheVariants.{Used}
-use Rattle.kernel_tables.specs.Kernel.{Kernel, inode_at, first_page, memory_page, with_bank_page}
+use Rattle.kernel_tables.specs.Kernel.{Kernel, inode_at, memory_page, with_bank_page}
 use Rattle.kernel_tables.specs.Rows.{domain_rows, KeepsRows}
 use Rattle.space_bank.specs.Bank.{BankGood}
 use Rattle.space_bank.specs.Fixed.{FixedNodes, UnusedGood}
@@ -16,8 +16,9 @@ use Rattle.space_bank.specs.Shares.{Outside}
 use Rattle.forest.specs.Changes.{KeepsRoot}
 use Rattle.forest.specs.Forest.{IsSpace, NoneEmpty, NoPageOutside}
 use Rattle.forest.specs.Objects.{NodeObject, OfProcess}
-use Rattle.forest.specs.Walks.{Mapping}
+use Rattle.forest.specs.Walks.{Mapping, map_of}
 use Rattle.kernel_forest.specs.Apart.{KeepsApart, KeepsInside}
+use Rattle.kernel_forest.specs.Owners.{page_owners, PagesAreOf}
 use Rattle.kernel_forest.specs.Releases.{KeepsUnreleased}
 use Rattle.kernel_forest.specs.Trees.{forest_of, outside_trees, page_tree, TreesGood}
 use Rattle.file_tables.specs.Roots.{named_by, ExchangesRoots}
@@ -25,7 +26,7 @@ use Rattle.file_tables.specs.Rows.{InodesGood, DescriptionsGood}
 use Rattle.seg_tree.specs.Promises.{Adds, Remaps, Replaces}
 use Rattle.seg_tree.specs.Writes.{Owns}
 use Rattle.user_copy.specs.SpaceMemory.{space_memory}
-use Rattle.user_copy.specs.Writing.{PutsBytes}
+use Rattle.user_copy.specs.Writing.{PutsPiece, PutsBytes}
 use Rattle.domain.specs.Domains.{Domain, Life, domains}
 use Rattle.domain.specs.Buffers.{WritesBuffer, DropsBuffer}
 use Rattle.domain.specs.Ends.{MakesZombie, MayDrop, DropsDomain}
@@ -39,14 +40,10 @@ use Rattle.unix_model.specs.Tables.{at, with_at}
 use Rattle.kernel_machine.specs.Counts.{InodesCounted, DescriptionsCounted}
 use Rattle.kernel_machine.specs.Good.{Good, ParkedGood}
 use Rattle.kernel_machine.specs.Held.{AllHeld, AllWhole, NodesHeld}
-use Rattle.kernel_machine.specs.Machine.{machine_of, inodes_of, page_owner_of}
+use Rattle.kernel_machine.specs.Machine.{machine_of, inodes_of}
 use Rattle.kernel_machine.specs.Processes.{SlotsGood, IsInSlot, HoldingsGood}
-use Rattle.kernel_machine.specs.Trees.{HasTree, IsFileTree, IsRootOf, RootsGood, KeepersGood, keeper}
+use Rattle.kernel_machine.specs.Trees.{HasTree, IsFileTree, IsRootOf, RootsGood, KeepersGood, keeper, pages_owner}
 use Rattle.kernel_machine.specs.View.{view, processes_in, inodes_in, descriptions_in}
-
--- who owns each page
-abbrev pub page_owners : Kernel → ℕ → Option PageOwner
-page_owners kernel = page_owner_of (first_page kernel.size) kernel.page_entries
 
 -- The bank, trees, domains and files by themselves, and that nothing is held twice or by nobody.
 pub record Standing (kernel : Kernel) : Type 0 where
@@ -131,12 +128,14 @@ StandingWithBytes =
 
 -- ---- calls on spaces
 
--- A call on one space that leaves all others, their owners, their keepers and their memories, and whatever belongs to no tree. It
--- may have taken and given back what belongs to trees.
+-- A call on one space that leaves all others, their owners, their keepers, their memories and whose their pages are, and whatever
+-- belongs to no tree. It may have taken and given back what belongs to trees.
 pub record LeavesSpaces (old new : Kernel) (space : ℕ) : Type 0 where
   pub spaces : (other : ℕ) → IsSpace (forest_of old) [] other ↔ IsSpace (forest_of new) [] other
   pub roots : (other : ℕ) → IsSpace (forest_of new) [] other → KeepsRoot (forest_of old) (forest_of new) [] other
   pub memories : (other : ℕ) → IsSpace (forest_of old) [] other → other ≢ space → space_memory new other ≡ space_memory old other
+  pub owned : (other : ℕ) (whose : PageOwner) → IsSpace (forest_of old) [] other → other ≢ space
+      → PagesAreOf whose (page_owners old) (map_of (forest_of old).keys other) → PagesAreOf whose (page_owners new) (map_of (forest_of new).keys other)
   pub trees : (outside : Outside) → TreesGood old outside [] → TreesGood new outside []
   pub inside : (outside : Outside) → TreesGood old outside [] → KeepsInside old new outside
   pub filled : NoneEmpty (forest_of old).keys → NoneEmpty (forest_of new).keys
@@ -162,7 +161,11 @@ OwnsLeaves =
     (old new : Kernel) (space page result : ℕ) (owner : PageOwner) (outside : Outside)
     → TreesGood old outside [] → BankGood old → Owns old new space page result owner → LeavesSpaces old new space
 
--- .. and the one that puts bytes.
+-- .. and those that put bytes.
+abbrev pub PieceLeaves : Type 0
+PieceLeaves =
+    (old new : Kernel) (space at : ℕ) (bytes : List ℕ) (owner : PageOwner) → PutsPiece old new space at bytes owner → LeavesSpaces old new space
+
 abbrev pub PutLeaves : Type 0
 PutLeaves = (old new : Kernel) (space at : ℕ) (bytes : List ℕ) → PutsBytes old new space at bytes → LeavesSpaces old new space
 
@@ -179,6 +182,7 @@ StandingWithTree =
     (old new : Kernel) (space number : ℕ) (inode : Inode)
     → LeavesSpaces old new space → at (inodes_of old) number ≡ Some inode → HasTree inode.kind → inode.root ≡ space
     → IsFileTree (forest_of new).keys (memory_page new) space inode.length
+    → PagesAreOf (pages_owner inode.kind) (page_owners new) (map_of (forest_of new).keys space)
     → BankGood new → AllWhole new.bank → Standing old → Standing new
 
 -- ---- birth and end

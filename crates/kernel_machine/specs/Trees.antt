@@ -4,7 +4,7 @@ use Rattle.std.specs.List.{list_all}
 use Rattle.kn_base.specs.declared.key.Key.{Key}
 use Rattle.kn_base.specs.declared.key.Key.TheVariants.{Null, Start}
 use Rattle.kernel_tables.specs.declared.entry.PageOwner.{PageOwner}
-use Rattle.kernel_tables.specs.declared.entry.PageOwner.TheVariants.{Pipe as PipePage}
+use Rattle.kernel_tables.specs.declared.entry.PageOwner.TheVariants.{Memory, File as FilePage, Directory, Pipe as PipePage}
 use Rattle.kernel_tables.specs.declared.inode.Inode.{Inode}
 use Rattle.kernel_tables.specs.declared.inode.InodeKind.{InodeKind}
 use Rattle.kernel_tables.specs.declared.inode.InodeKind.TheVariants.{File, Dir, Pipe, Console}
@@ -14,6 +14,7 @@ use Rattle.forest.specs.Forest.{Forest, IsSpace}
 use Rattle.forest.specs.Objects.{NodeObject, OfFile, OfProcess}
 use Rattle.forest.specs.Walks.{Mapping, map_of, place_of}
 use Rattle.user_copy.specs.SpaceMemory.{memory_by}
+use Rattle.kernel_forest.specs.Owners.{PagesAreOf}
 use Rattle.kernel_machine.specs.Contents.{pages_in}
 
 -- behind so many bytes all are zero
@@ -35,12 +36,21 @@ HasTree Dir = Unit {0}
 HasTree Pipe = ⊥
 HasTree Console = ⊥
 
+-- whose the pages of an inode are; the console has none
+abbrev pub pages_owner : InodeKind → PageOwner
+pages_owner File = FilePage
+pages_owner Dir = Directory
+pages_owner Pipe = PipePage
+pages_owner Console = Memory
+
 -- what an inode's root is
 abbrev pub IsRootOf : Forest → (ℕ → List ℕ) → (ℕ → Option PageOwner) → Inode → InodeKind → Type 0
 IsRootOf forest bytes owner inode File =
     inode.root ≢ 0 → IsSpace forest [] inode.root × (forest.owner (NodeObject inode.root) ≡ Some OfFile) × IsFileTree forest.keys bytes inode.root inode.length
+    × PagesAreOf FilePage owner (map_of forest.keys inode.root)
 IsRootOf forest bytes owner inode Dir =
     inode.root ≢ 0 → IsSpace forest [] inode.root × (forest.owner (NodeObject inode.root) ≡ Some OfFile) × IsFileTree forest.keys bytes inode.root inode.length
+    × PagesAreOf Directory owner (map_of forest.keys inode.root)
 IsRootOf forest bytes owner inode Pipe = at owner inode.root ≡ Some PipePage
 IsRootOf forest bytes owner inode Console = Unit {0}
 

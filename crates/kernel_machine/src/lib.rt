@@ -41,8 +41,8 @@ pub use marks::{
     slots_are_named, standing_with_marks,
 };
 pub use standing::{
-    good_is_both, owns_leaves, put_leaves, remap_leaves, replace_leaves, slots_born, slots_changed,
-    slots_gone, standing_with_birth, standing_with_buffer, standing_with_bytes,
+    good_is_both, owns_leaves, piece_leaves, put_leaves, remap_leaves, replace_leaves, slots_born,
+    slots_changed, slots_gone, standing_with_birth, standing_with_buffer, standing_with_bytes,
     standing_with_description, standing_with_end, standing_with_gone, standing_with_inode,
     standing_with_life, standing_with_memory, standing_with_numbers, standing_with_tree,
     standing_with_words, standing_without_buffer,

@@ -1,6 +1,6 @@
 //! Laws of what stands within a turn too, and of what is settled between turns.
 
-ghost use Rattle.kernel_machine.specs.Standing.{GoodIsBoth, OwnsLeaves, PutLeaves, RemapLeaves, ReplaceLeaves, SlotsBorn, SlotsChanged, SlotsGone, StandingWithBirth, StandingWithBuffer, StandingWithBytes, StandingWithDescription, StandingWithEnd, StandingWithGone, StandingWithInode, StandingWithLife, StandingWithMemory, StandingWithNumbers, StandingWithTree, StandingWithWords, StandingWithoutBuffer};
+ghost use Rattle.kernel_machine.specs.Standing.{GoodIsBoth, OwnsLeaves, PieceLeaves, PutLeaves, RemapLeaves, ReplaceLeaves, SlotsBorn, SlotsChanged, SlotsGone, StandingWithBirth, StandingWithBuffer, StandingWithBytes, StandingWithDescription, StandingWithEnd, StandingWithGone, StandingWithInode, StandingWithLife, StandingWithMemory, StandingWithNumbers, StandingWithTree, StandingWithWords, StandingWithoutBuffer};
 
 /// What stands, and what is settled, is all that holds between turns.
 pub fn good_is_both()
@@ -50,6 +50,11 @@ pub fn replace_leaves()
 /// So does the call that makes a page of a space its own before it is written.
 pub fn owns_leaves()
     ensures { OwnsLeaves }
+{}
+
+/// So does the call that puts bytes into one page of a space.
+pub fn piece_leaves()
+    ensures { PieceLeaves }
 {}
 
 /// So does the call that puts bytes into a space.

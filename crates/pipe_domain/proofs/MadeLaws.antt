@@ -14,9 +14,8 @@ use Rattle.kernel_tables.specs.Rows.{entry_at}
 use Rattle.space_bank.specs.FreeList.{is_free}
 use Rattle.unix_model.specs.Tables.{at}
 use Rattle.kernel_machine.specs.Loose.{Loose, Nothing, Ring, root_of, IsRowRoot, StandingBut}
-use Rattle.kernel_machine.specs.Standing.{Standing, page_owners}
+use Rattle.kernel_machine.specs.Standing.{Standing}
 use Rattle.kernel_machine.specs.Trees.{IsRootOf}
-use Rattle.kernel_machine.specs.Machine.{owner_in, page_owner_of}
 use Rattle.kernel_tables.specs.declared.entry.PageOwner.{PageOwner}
 use Rattle.kernel_tables.specs.declared.entry.PageOwner.TheVariants.{Pipe as PipePage}
 use Rattle.kernel_tables.specs.declared.inode.Inode.{Inode}
@@ -33,6 +32,7 @@ use Rattle.file_tables.specs.Rows.{IsInodeAt, InodesGood}
 use Rattle.file_tables.proofs.PageLaws.{page_taken}
 use Rattle.file_tables.proofs.RootLaws.{handed_over}
 use Rattle.forest.specs.Forest.{masked}
+use Rattle.kernel_forest.specs.Owners.{owner_in, page_owner_of, page_owners}
 use Rattle.kernel_forest.specs.Trees.{TreesGood, forest_of, owner_of}
 use Rattle.kernel_machine.specs.Contents.{ring_in}
 use Rattle.kernel_machine.specs.Machine.{machine_of, inodes_of, descriptions_of}

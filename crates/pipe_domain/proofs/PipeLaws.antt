@@ -1,6 +1,6 @@
 -- What the inode of a pipe has, in a machine in which all stands.
 use Rattle.std.proofs.Common.{◌≡◌, ℕ, ◌+◌, ◌-◌, ◌<◌, ◌≤◌, false, Some, None, length, slice_set, arith, refl, sym, ap, subst, ◌∙◌, ⊎_elim}
-use Rattle.std.proofs.lemmas.Bool.{cases_lt, lt-ltb, le-ltb}
+use Rattle.std.proofs.lemmas.Bool.{cases_lt}
 use Rattle.std.proofs.lemmas.List.{get_or_past, get_or-set_same}
 use Rattle.kernel_tables.specs.declared.entry.Entry.{Entry}
 use Rattle.kernel_tables.specs.declared.entry.Entry.TheVariants.{Free, Taken, Fixed, Unspelled}
@@ -17,12 +17,15 @@ use Rattle.space_bank.specs.Bank.{BankGood}
 use Rattle.space_bank.specs.FreeList.{is_free}
 use Rattle.file_tables.specs.Rows.{DescriptionsGood, InodesGood, IsInodeAt, IsInodeRow, IsOfKind, IsPipe}
 use Rattle.unix_model.specs.Tables.{at}
+use Rattle.kernel_forest.specs.Owners.{owner_in, page_owners}
 use Rattle.kernel_forest.specs.Trees.{forest_of}
+use Rattle.kernel_forest.proofs.Owners.{owned-entry, owned-in-bank}
 use Rattle.kernel_machine.specs.Counts.{opens}
-use Rattle.kernel_machine.specs.Machine.{machine_of, descriptions_of, held, inodes_of, owner_in, page_owner_of}
+use Rattle.kernel_machine.specs.Machine.{machine_of, descriptions_of, held, inodes_of}
 use Rattle.kernel_machine.specs.View.{descriptions_in}
-use Rattle.kernel_machine.specs.Standing.{Standing, page_owners}
+use Rattle.kernel_machine.specs.Standing.{Standing}
 use Rattle.kernel_machine.proofs.MemoryLaws.{page-of}
+use Rattle.kernel_machine.proofs.OwnerLaws.{owned-below}
 use Rattle.pipe_domain.specs.Pipes.{HasRing, IsPipeAt, PipeGood, pipe_at, row_inode, less_by, more_by}
 
 -- an entry of an owner is taken
@@ -33,36 +36,18 @@ owned-used Fixed owner e = refl
 owned-used Unspelled owner e = refl
 
 module _ (kernel : Kernel) (page : ℕ) (owner : PageOwner) (owned : at (page_owners kernel) page ≡ Some owner) (standing : Standing kernel) where
-  page-low : first_page kernel.size ≤ page
-  unfolding page_owner_of at
-  page-low = ⊎_elim
-      (λ (t : page < first_page kernel.size). let wrong : None ≡ Some owner = rw (lt-ltb page (first_page kernel.size) t) at owned in cc)
-      (λ (t : first_page kernel.size ≤ page). t)
-      (cases_lt page (first_page kernel.size))
-
-  its-entry : owner_in (entry_at kernel.page_entries (page - first_page kernel.size)) ≡ Some owner
-  unfolding page_owner_of at
-  its-entry = rw (le-ltb page (first_page kernel.size) page-low) at owned
-
   page-used : is_free (entry_at kernel.page_entries (page - first_page kernel.size)) ≡ false
-  page-used = owned-used (entry_at kernel.page_entries (page - first_page kernel.size)) owner its-entry
-
-  page-high : page - first_page kernel.size < kernel.size
-  page-high = ⊎_elim
-      (λ (t : page - first_page kernel.size < kernel.size). t)
-      (λ (past : kernel.size ≤ page - first_page kernel.size). ⊎_elim
-      (λ (inside : page - first_page kernel.size < length kernel.page_entries).
-      let wrong : None ≡ Some owner = sym (ap owner_in (standing.bank.pages.entries_good.unused (page - first_page kernel.size) past inside)) ∙ its-entry in cc)
-      (λ (outside : length kernel.page_entries ≤ page - first_page kernel.size).
-      let wrong : None ≡ Some owner = sym (ap owner_in (get_or_past kernel.page_entries (page - first_page kernel.size) Unspelled outside)) ∙ its-entry in cc)
-      (cases_lt (page - first_page kernel.size) (length kernel.page_entries)))
-      (cases_lt (page - first_page kernel.size) kernel.size)
+  page-used = owned-used (entry_at kernel.page_entries (page - first_page kernel.size)) owner (owned-entry kernel page owner owned)
 
   pub page-in-bank : IsBankPage kernel.size page
-  page-in-bank = record { low = page-low; high = omega (arith, page-low, page-high) }
+  page-in-bank =
+      let low = owned-in-bank kernel page owner owned in
+      let high = owned-below kernel page owner standing.bank owned in record { low = low; high = omega arith }
 
   pub page-whole : length (bank_page kernel page) ≡ 4096
-  page-whole = standing.whole (page - first_page kernel.size) (omega (arith, page-high, standing.bank.pages.pages))
+  page-whole =
+      let high = owned-below kernel page owner standing.bank owned in
+      standing.whole (page - first_page kernel.size) (let all = standing.bank.pages.pages in omega arith)
 
 -- what the table of inodes says of a pipe
 pub pipe-there : (kernel : Kernel) (pipe : ℕ) → IsPipeAt kernel pipe → at (inodes_of kernel) pipe ≡ Some (pipe_at kernel pipe)

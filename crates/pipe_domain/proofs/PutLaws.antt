@@ -8,6 +8,7 @@ use Rattle.kernel_tables.specs.declared.inode.Inode.{Inode}
 use Rattle.kernel_tables.specs.declared.row.Row.TheVariants.{Used, Unspelled}
 use Rattle.kernel_tables.specs.Kernel.{Kernel, IsBankPage, first_page, bank_page, memory_page, with_bank_page}
 use Rattle.space_bank.specs.Bank.{BankGood}
+use Rattle.kernel_forest.specs.Owners.{page_owners}
 use Rattle.file_tables.specs.Roots.{ExchangesRoots}
 use Rattle.file_tables.specs.Rows.{InodesGood}
 use Rattle.unix_model.specs.Files as model
@@ -16,7 +17,7 @@ use Rattle.unix_model.specs.State.{Unix, with_files}
 use Rattle.unix_model.specs.Tables.{at}
 use Rattle.kernel_machine.specs.Contents.{ring_in}
 use Rattle.kernel_machine.specs.Machine.{machine_of, inodes_of, descriptions_of}
-use Rattle.kernel_machine.specs.Standing.{Standing, page_owners}
+use Rattle.kernel_machine.specs.Standing.{Standing}
 use Rattle.kernel_machine.specs.View.{view, descriptions_in, files_in, inode_in}
 use Rattle.kernel_machine.proofs.SetLaws.{inode_set}
 use Rattle.kernel_machine.proofs.StandingLaws.{standing_with_inode, standing_with_bytes, same-memory}

@@ -14,10 +14,11 @@ use Rattle.unix_model.specs.Files as model
 use Rattle.unix_model.specs.Files.{has_writer, with_inode}
 use Rattle.unix_model.specs.State.{with_files}
 use Rattle.unix_model.specs.Tables.{at}
+use Rattle.kernel_forest.specs.Owners.{page_owners}
 use Rattle.kernel_forest.specs.Trees.{forest_of}
 use Rattle.kernel_machine.specs.Contents.{ring_in}
 use Rattle.kernel_machine.specs.Machine.{machine_of}
-use Rattle.kernel_machine.specs.Standing.{Standing, page_owners}
+use Rattle.kernel_machine.specs.Standing.{Standing}
 use Rattle.kernel_machine.specs.Trees.{IsRootOf}
 use Rattle.kernel_machine.specs.View.{view, files_in}
 use Rattle.kernel_machine.proofs.SetLaws.{inode_set}

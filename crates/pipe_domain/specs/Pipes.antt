@@ -9,6 +9,7 @@ use Rattle.kernel_tables.specs.Rows.{entry_at}
 use Rattle.kernel_tables.specs.declared.entry.PageOwner.TheVariants.{Pipe as PipePage}
 use Rattle.space_bank.specs.FreeList.{is_free}
 use Rattle.space_bank.specs.Bank.{BankGood}
+use Rattle.kernel_forest.specs.Owners.{page_owners}
 use Rattle.file_tables.specs.Rows.{IsInodeAt, InodesGood, DescriptionsGood}
 use Rattle.file_tables.specs.Numbers.{fresh_inode}
 use Rattle.unix_model.specs.declared.calls.Errno.{Errno}
@@ -21,7 +22,7 @@ use Rattle.unix_model.specs.Tables.{at}
 use Rattle.kernel_machine.specs.Contents.{ring_in}
 use Rattle.kernel_machine.specs.Machine.{machine_of}
 use Rattle.kernel_machine.specs.Counts.{opens}
-use Rattle.kernel_machine.specs.Standing.{Standing, page_owners}
+use Rattle.kernel_machine.specs.Standing.{Standing}
 use Rattle.kernel_machine.specs.View.{view, descriptions_in, files_in}
 use Rattle.pipe_domain.specs.declared.piped.Piped.{Piped}
 use Rattle.pipe_domain.specs.declared.piped.Piped.TheVariants.{Moved, End, Wait}

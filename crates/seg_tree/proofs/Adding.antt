@@ -200,7 +200,7 @@ module _ (k0 k1 k2 : Kernel) (fresh : NodeId) (to : Owner) (keeper : Key) (none 
     outside_now = (steps_trans k0 k1 k2 (with_taken (forest_of k0) (NodeObject fresh.0) to) (with_key (forest_of k1) (place_of fresh.0 15) keeper) 1 0 takes.steps puts.steps).outside_now;
     rows_now = (steps_trans k0 k1 k2 (with_taken (forest_of k0) (NodeObject fresh.0) to) (with_key (forest_of k1) (place_of fresh.0 15) keeper) 1 0 takes.steps puts.steps).rows_now;
     apart_now = (steps_trans k0 k1 k2 (with_taken (forest_of k0) (NodeObject fresh.0) to) (with_key (forest_of k1) (place_of fresh.0 15) keeper) 1 0 takes.steps puts.steps).apart_now;
-    spelled_now = (steps_trans k0 k1 k2 (with_taken (forest_of k0) (NodeObject fresh.0) to) (with_key (forest_of k1) (place_of fresh.0 15) keeper) 1 0 takes.steps puts.steps).spelled_now;
+    owners_now = (steps_trans k0 k1 k2 (with_taken (forest_of k0) (NodeObject fresh.0) to) (with_key (forest_of k1) (place_of fresh.0 15) keeper) 1 0 takes.steps puts.steps).owners_now;
     inside = λ outside. inside_same k0 k2 outside ((steps_trans k0 k1 k2 (with_taken (forest_of k0) (NodeObject fresh.0) to) (with_key (forest_of k1) (place_of fresh.0 15) keeper) 1 0 takes.steps puts.steps).outside_now outside)
         (λ number some.
         let same = ap (λ (f : Forest). f.owner (PageObject number)) forest_is ∙ other_object (forest_of k0).owner (NodeObject fresh.0) (Some to) (PageObject number) (λ e. cc) in

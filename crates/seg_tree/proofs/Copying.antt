@@ -47,7 +47,7 @@ steps_trans old mid new between after few more first second = record {
   outside_now = λ outside. second.outside_now outside ∙ first.outside_now outside;
   rows_now = λ mine apart. second.rows_now mine apart ∙ first.rows_now mine apart;
   apart_now = second.apart_now ∙ first.apart_now;
-  spelled_now = λ place some. second.spelled_now place (first.spelled_now place some);
+  owners_now = second.owners_now ∙ first.owners_now;
   rest = rest_trans old mid new first.rest second.rest;
   number = let a = first.number in let b = second.number in omega arith;
 }
@@ -58,7 +58,7 @@ steps_to old new forest other few more e n steps = record {
   outside_now = steps.outside_now;
   rows_now = steps.rows_now;
   apart_now = steps.apart_now;
-  spelled_now = steps.spelled_now;
+  owners_now = steps.owners_now;
   rest = steps.rest;
   number = steps.number ∙ ap (λ k. old.machine.nodes_taken + k) n;
 }
@@ -71,7 +71,7 @@ changes_trans old mid new between after few more first second = record {
 
 pub no_change : (kernel : Kernel) → Changes kernel kernel (forest_of kernel) 0
 no_change kernel = record {
-  steps = record { forest_now = refl; outside_now = λ outside. refl; rows_now = λ mine apart. refl; apart_now = refl; spelled_now = λ place some. some; rest = refl; number = sym (add-zero kernel.machine.nodes_taken) };
+  steps = record { forest_now = refl; outside_now = λ outside. refl; rows_now = λ mine apart. refl; apart_now = refl; owners_now = refl; rest = refl; number = sym (add-zero kernel.machine.nodes_taken) };
   shares = λ outside hand counted. counted;
 }
 

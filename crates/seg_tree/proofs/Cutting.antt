@@ -29,6 +29,7 @@ use Rattle.seg_tree.specs.Ways.{HasOwnWay, KeepsOtherWays, KeepsMappedWays}
 use Rattle.seg_tree.proofs.OwnWays.{counts_keep_way}
 use Rattle.seg_tree.proofs.Mapping.{space_leaf}
 use Rattle.kernel_forest.proofs.ApartLaws.{inside_same}
+use Rattle.kernel_forest.proofs.Owners.{keeps-leaves, leaves-leaves}
 use Rattle.kernel_forest.specs.Trees.{forest_of, outside_trees, IsTreeKey, TreesGood}
 use Rattle.kernel_forest.specs.Moves.{PutsKey}
 use Rattle.kernel_forest.specs.Releases.{Releasing, InHand, Lets}
@@ -109,7 +110,7 @@ module _ (k0 : Kernel) (above digit : ℕ) (node : NodeId) (known : Outside) (kn
           outside_now = λ outside. lets.outside_now outside ∙ puts.steps.outside_now outside;
           rows_now = λ mine apart. lets.rows_now mine apart ∙ puts.steps.rows_now mine apart;
           apart_now = lets.apart_now ∙ puts.steps.apart_now;
-          spelled_now = λ place some. lets.spelled_now place (puts.steps.spelled_now place some);
+          owners_now = leaves-leaves k0 k1 k2 (keeps-leaves k0 k1 puts.steps.owners_now) lets.owners_now;
           rest = unreleased_trans k0 k1 k2 (unreleased k0 k1 puts.steps.rest) lets.rest;
           bank = ap (λ (k : Kernel). k.bank) given ∙ ap (λ (k : Kernel). k.bank) puts.steps.rest;
           fewer = omega arith;
@@ -146,7 +147,7 @@ module _ (k0 : Kernel) (above digit : ℕ) (node : NodeId) (known : Outside) (kn
     outside_now = off.outside_now;
     rows_now = off.rows_now;
     apart_now = off.apart_now;
-    spelled_now = off.spelled_now;
+    owners_now = off.owners_now;
     rest = off.rest;
     bank = off.bank;
     pages = λ number. ap (λ (f : Forest). f.owner (PageObject number)) off.forest_now
@@ -167,7 +168,7 @@ prunes_none kernel = record {
   outside_now = λ outside. refl;
   rows_now = λ mine apart. refl;
   apart_now = refl;
-  spelled_now = λ place some. some;
+  owners_now = λ page owner is. is;
   rest = refl;
   bank = refl;
   pages = λ number. refl;
@@ -187,7 +188,7 @@ prunes_trans k0 k1 k2 first second = record {
   outside_now = λ outside. second.outside_now outside ∙ first.outside_now outside;
   rows_now = λ mine apart. second.rows_now mine apart ∙ first.rows_now mine apart;
   apart_now = second.apart_now ∙ first.apart_now;
-  spelled_now = λ place some. second.spelled_now place (first.spelled_now place some);
+  owners_now = leaves-leaves k0 k1 k2 first.owners_now second.owners_now;
   rest = unreleased_trans k0 k1 k2 first.rest second.rest;
   bank = second.bank ∙ first.bank;
   pages = λ number. second.pages number ∙ first.pages number;
@@ -384,7 +385,7 @@ module _ (k0 k1 k2 : Kernel) (space page : ℕ) (was : Key) (put : PutsLeaf k0 k
         outside_now = outside_same;
         rows_now = λ mine apart. pruned.rows_now mine apart ∙ lets.rows_now mine apart ∙ put.rows_now mine apart;
         apart_now = pruned.apart_now ∙ lets.apart_now ∙ put.apart_now;
-        spelled_now = λ place some. pruned.spelled_now place (lets.spelled_now place (put.spelled_now place some));
+        owners_now = leaves-leaves k0 k2 k3 (leaves-leaves k0 k1 k2 (keeps-leaves k0 k1 put.owners_now) lets.owners_now) pruned.owners_now;
         inside = λ outside. inside_same k0 k3 outside (outside_same outside)
             (λ number some. ap is_some (sym (put.pages_now number)) ∙ lets.keeps.fewer (PageObject number) (ap is_some (sym (pruned.pages number)) ∙ some));
         rest = unreleased_trans k0 k2 k3 (unreleased_trans k0 k1 k2 (unreleased k0 k1 put.rest) lets.rest) pruned.rest;

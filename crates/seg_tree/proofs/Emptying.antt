@@ -22,6 +22,7 @@ use Rattle.forest.proofs.CallLaws.{root_in_hand}
 use Rattle.forest.proofs.KeptWays.{release_keeps_ways}
 use Rattle.forest.proofs.OwnMaps.{way_of_node}
 use Rattle.kernel_forest.proofs.ApartLaws.{inside_same}
+use Rattle.kernel_forest.proofs.Owners.{keeps-leaves, leaves-leaves}
 use Rattle.kernel_forest.specs.Trees.{forest_of, outside_trees, IsTreeKey, TreesGood}
 use Rattle.kernel_forest.specs.Moves.{PutsKey}
 use Rattle.kernel_forest.specs.Releases.{Releasing, Lets, InHand}
@@ -88,14 +89,14 @@ lets_trans a b c p q r first second = record {
   outside_now = λ outside. second.outside_now outside ∙ first.outside_now outside;
   rows_now = λ mine apart. second.rows_now mine apart ∙ first.rows_now mine apart;
   apart_now = second.apart_now ∙ first.apart_now;
-  spelled_now = λ place some. second.spelled_now place (first.spelled_now place some);
+  owners_now = leaves-leaves a b c first.owners_now second.owners_now;
   rest = unreleased_trans a b c first.rest second.rest;
   keeps = bytes_trans a b c (ap (λ (k : Kernel). k.size) first.rest) first.keeps second.keeps;
 }
 
 -- one key is let go before another one in hand
 pub lets_before : (old new : Kernel) (key other : Key) → Lets old new (key ∷ []) [] → Lets old new (key ∷ other ∷ []) (other ∷ [])
-lets_before old new key other l = record { lets = λ outside hand releasing. l.lets outside (other ∷ hand) releasing; outside_now = l.outside_now; rows_now = l.rows_now; apart_now = l.apart_now; spelled_now = l.spelled_now; rest = l.rest; keeps = l.keeps }
+lets_before old new key other l = record { lets = λ outside hand releasing. l.lets outside (other ∷ hand) releasing; outside_now = l.outside_now; rows_now = l.rows_now; apart_now = l.apart_now; owners_now = l.owners_now; rest = l.rest; keeps = l.keeps }
 
 pub hand_after : (old new : Kernel) (p q : List Key) → Lets old new p q → InHand old p → InHand new q
 hand_after old new p q l h = (h.0, h.1, (l.lets h.0 h.1 h.2).0)
@@ -152,7 +153,7 @@ lets_out old new node digit height once below tree puts = record {
   outside_now = puts.steps.outside_now;
   rows_now = puts.steps.rows_now;
   apart_now = puts.steps.apart_now;
-  spelled_now = puts.steps.spelled_now;
+  owners_now = keeps-leaves old new puts.steps.owners_now;
   rest = unreleased old new puts.steps.rest;
   keeps = keeps_bytes old new (with_key (forest_of old) (place_of node.0 digit) Null) puts.steps.forest_now (λ object some. some) (same_bytes old new puts.steps.rest);
 }
@@ -239,7 +240,7 @@ empties_none kernel node height fits once = record {
     outside_now = λ outside. refl;
     rows_now = λ mine apart. refl;
     apart_now = refl;
-    spelled_now = λ place some. some;
+    owners_now = λ page owner is. is;
     rest = refl;
     keeps = keeps_bytes kernel kernel (forest_of kernel) refl (λ object some. some) (λ page. refl);
   };
@@ -350,7 +351,7 @@ drops_space kernel new space known good is_space known_trees lets = record {
   outside_now = lets.outside_now;
   rows_now = lets.rows_now;
   apart_now = lets.apart_now;
-  spelled_now = lets.spelled_now;
+  owners_now = lets.owners_now;
   inside = λ outside. inside_same kernel new outside (lets.outside_now outside) (λ number some. lets.keeps.fewer (PageObject number) some);
   rest = lets.rest;
   keeps = lets.keeps;

@@ -113,7 +113,7 @@ descends_root kernel outside hand space to trees = record {
   outside_now = λ all. refl;
   rows_now = λ mine apart. refl;
   apart_now = refl;
-  spelled_now = λ place some. some;
+  owners_now = refl;
   rest = refl;
   number = sym (add-zero kernel.machine.nodes_taken);
   few = omega arith;
@@ -148,7 +148,7 @@ module _ (old mid : Kernel) (outside : Outside) (hand : List Key) (space : ℕ) 
       outside_now = d.outside_now;
       rows_now = d.rows_now;
       apart_now = d.apart_now;
-      spelled_now = d.spelled_now;
+      owners_now = d.owners_now;
       rest = d.rest;
       number = d.number;
       few = let f = d.few in omega arith;
@@ -185,7 +185,7 @@ module _ (old mid : Kernel) (outside : Outside) (hand : List Key) (space : ℕ) 
           outside_now = λ o. fresh.changes.steps.outside_now o ∙ d.outside_now o;
           rows_now = λ mine apart. fresh.changes.steps.rows_now mine apart ∙ d.rows_now mine apart;
           apart_now = fresh.changes.steps.apart_now ∙ d.apart_now;
-          spelled_now = λ place some. fresh.changes.steps.spelled_now place (d.spelled_now place some);
+          owners_now = fresh.changes.steps.owners_now ∙ d.owners_now;
           rest = rest_trans old mid new d.rest fresh.changes.steps.rest;
           number = let a = fresh.changes.steps.number in let b = d.number in omega arith;
           few = let f = d.few in omega arith;

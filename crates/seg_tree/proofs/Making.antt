@@ -1,12 +1,14 @@
 -- The page at a page number is made a space's own: nothing changes where it was, and else a copy is put in its place.
-use Rattle.std.proofs.Common.{inl, inr, ◌≡◌, ◌≢◌, ◌<◌, ◌≤◌, ◌+◌, ◌/◌, ◌%◌, ◌^◌, ◌==◌, ◌&&◌, not, ◌↔◌, ℕ, Bool, true, false, Option, Some, None, [], ◌∷◌, length, refl, ap, sym, subst, ◌∙◌, arith, ⊎_elim}
+use Rattle.std.proofs.Common.{inl, inr, ◌≡◌, ◌≢◌, ◌<◌, ◌≤◌, ◌+◌, ◌-◌, ◌/◌, ◌%◌, ◌^◌, ◌==◌, ◌&&◌, not, ◌↔◌, ℕ, Bool, true, false, Option, Some, None, [], ◌∷◌, length, refl, ap, sym, subst, ◌∙◌, arith, ⊎_elim}
 use Rattle.std.specs.Option.{is_some, IsSome}
 use Rattle.std.proofs.lemmas.Bool.{cases_lt, cases_eq, ne_eqb, eq-eqb, eqb-true}
 use Rattle.kn_base.specs.declared.key.Key.{Key}
 use Rattle.kn_base.specs.declared.key.Key.TheVariants.{Null}
 use Rattle.kernel_tables.specs.declared.entry.PageOwner.{PageOwner}
 use Rattle.kernel_tables.specs.Kernel.{Kernel, IsBankPage, bank_page, memory_page, first_page}
+use Rattle.kernel_tables.specs.Rows.{entry_at}
 use Rattle.space_bank.specs.Bank.{BankGood}
+use Rattle.space_bank.specs.FreeList.{is_free}
 use Rattle.space_bank.specs.Shares.{Outside}
 use Rattle.unix_model.specs.Tables.{at, with_at}
 use Rattle.unix_model.proofs.TableLaws.{with_at-same}
@@ -26,8 +28,10 @@ use Rattle.forest.proofs.CallLaws.{own_way_is_own}
 use Rattle.forest.proofs.AloneLaws.{own_has_own_way}
 use Rattle.forest.proofs.EmptyLaws.{descent_leaves_last_empty, write_fills}
 use Rattle.kernel_forest.proofs.ApartLaws.{inside_same}
+use Rattle.kernel_forest.proofs.Owners.{keeps-takes, taken-takes, free-by-nobody}
 use Rattle.kernel_forest.specs.Trees.{forest_of, outside_trees, page_tree, TreesGood}
 use Rattle.kernel_forest.specs.Moves.{KeepsRest}
+use Rattle.kernel_forest.specs.Owners.{page_owners}
 use Rattle.kernel_forest.proofs.GivingNodes.{unreleased, same_bytes}
 use Rattle.kernel_forest.proofs.InTrees.{AllTreeKeys, AllSingle, written_in_trees}
 use Rattle.seg_tree.specs.Steps.{Descends}
@@ -233,7 +237,7 @@ module _ (old mid : Kernel) (space page node found : ℕ) (to : Owner) (below : 
         outside_now = d.outside_now;
         rows_now = d.rows_now;
         apart_now = d.apart_now;
-        spelled_now = d.spelled_now;
+        owners_now = keeps-takes page_owner old mid d.owners_now;
         inside = λ outside all. inside_same old mid outside (d.outside_now outside) (λ number some. ap is_some (sym (made_pages d.made number)) ∙ some);
         rest = unreleased old mid d.rest;
         told = inl (own_before old mid space page node found to below is_space owner mapped known trees d good page_owner real single);
@@ -246,7 +250,7 @@ module _ (old mid : Kernel) (space page node found : ℕ) (to : Owner) (below : 
 
   -- the page was not own
   module _ (new : Kernel) (fresh : ℕ) (page_owner : PageOwner) (tree : page_tree page_owner ≡ Some to) (good : BankGood new)
-      (c : CopiesLeaf mid new (place_of node (page % 16)) found fresh to) (real : fresh ≢ 0) (many : found ≢ 0 → 2 ≤ (forest_of mid).count (PageObject found)) where
+      (c : CopiesLeaf mid new (place_of node (page % 16)) found fresh page_owner to) (real : fresh ≢ 0) (many : found ≢ 0 → 2 ≤ (forest_of mid).count (PageObject found)) where
     is_many : IsMany (forest_of mid) (named (at (forest_of mid).keys (place_of node (page % 16))))
     is_many object h = ⊎_elim
         (λ (t : found ≡ 0). absurd (let no : None ≡ Some object = ap (λ n. named (page_key n)) (sym t) ∙ ap named (sym here.stands) ∙ h in cc))
@@ -313,6 +317,12 @@ module _ (old mid : Kernel) (space page node found : ℕ) (to : Owner) (below : 
         let owned : (forest_of new).owner (PageObject fresh) ≡ Some to =
         ap (λ (g : Forest). g.owner (PageObject fresh)) c.takes.forest_now
         ∙ page_owner_now (forest_of mid) (outside_trees mid known) space page node fresh to here.trees.held here.is_space here.owner below here.above here.ends f real is_many in
+        let was_free : is_free (entry_at old.page_entries (fresh - first_page old.size)) ≡ true =
+        unnamed_free old known fresh old_good (subst (λ s. IsBankPage s fresh) size c.takes.inside) trees.shares
+        (free_unnamed (forest_of old) trees.held.sound (PageObject fresh) (sym (made_pages d.made fresh) ∙ c.takes.unowned))
+        (ap (λ (out : Object → ℕ). out (PageObject fresh)) (sym (d.outside_now known)) ∙ f.none_outside) in
+        let taken_now : page_owners new ≡ with_at (page_owners old) fresh (Some page_owner) =
+        c.takes.owners_now ∙ ap (λ (owners : ℕ → Option PageOwner). with_at owners fresh (Some page_owner)) d.owners_now in
         record {
           found = writable_mapping found;
           mapped = mapped;
@@ -336,7 +346,7 @@ module _ (old mid : Kernel) (space page node found : ℕ) (to : Owner) (below : 
           outside_now = λ outside. c.takes.outside_now outside ∙ d.outside_now outside;
           rows_now = λ mine apart. c.takes.rows_now mine apart ∙ d.rows_now mine apart;
           apart_now = c.takes.apart_now ∙ d.apart_now;
-          spelled_now = λ place some. c.takes.spelled_now place (d.spelled_now place some);
+          owners_now = taken-takes page_owner old new fresh taken_now (free-by-nobody old fresh was_free);
           inside = λ outside all none number some. ⊎_elim
               (λ (t : PageObject number ≡ PageObject fresh).
               ap (λ (out : Object → ℕ). out (PageObject number)) (c.takes.outside_now outside) ∙ ap (outside_trees mid outside) t ∙ (free outside all).none_outside)
@@ -352,12 +362,11 @@ module _ (old mid : Kernel) (space page node found : ℕ) (to : Owner) (below : 
               let one = own_single old mid space page node found to below is_space owner mapped known trees d own in
               absurd (not_single one.0 one.1);
           copied = λ no. record {
-            was_free = unnamed_free old known fresh old_good (subst (λ s. IsBankPage s fresh) size c.takes.inside) trees.shares
-                (free_unnamed (forest_of old) trees.held.sound (PageObject fresh) (sym (made_pages d.made fresh) ∙ c.takes.unowned))
-                (ap (λ (out : Object → ℕ). out (PageObject fresh)) (sym (d.outside_now known)) ∙ f.none_outside);
+            was_free = was_free;
             unowned = sym (made_pages d.made fresh) ∙ c.takes.unowned;
             unnamed = λ outside all. ap (λ (out : Object → ℕ). out (PageObject fresh)) (sym (d.outside_now outside)) ∙ (free outside all).none_outside;
             owned = owned ∙ sym tree;
+            owners_now = taken_now;
             number = c.takes.pages ∙ ap (λ (k : Kernel). k.machine.pages_taken + 1) d.rest;
           };
           ways = λ mine other is own.

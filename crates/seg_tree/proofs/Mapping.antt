@@ -263,7 +263,7 @@ puts_leaf old mid put space page node to key fits below is_space owner owners kn
       outside_now = outside_is old mid known space page node to key fits below known_trees is_space owner owners d put puts;
       rows_now = λ mine apart. puts.steps.rows_now mine apart ∙ d.rows_now mine apart;
       apart_now = puts.steps.apart_now ∙ d.apart_now;
-      spelled_now = λ place some. puts.steps.spelled_now place (d.spelled_now place some);
+      owners_now = puts.steps.owners_now ∙ d.owners_now;
       pages_now = λ number. ap (λ (f : Forest). f.owner (PageObject number)) puts.steps.forest_now ∙ made_pages d.made number;
       rest = rest_trans old mid put d.rest puts.steps.rest;
       most = put_most old mid known space page node to key fits below known_trees is_space owner owners d put puts;

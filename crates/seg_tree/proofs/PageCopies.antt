@@ -24,7 +24,8 @@ use Rattle.forest.proofs.CopyLaws.{end_owned}
 use Rattle.forest.proofs.ReleaseLaws.{some_not_none}
 use Rattle.kernel_forest.specs.Trees.{forest_of, outside_trees, tree_in, page_tree, IsTreeKey}
 use Rattle.kernel_forest.specs.Apart.{apart_of}
-use Rattle.kernel_forest.proofs.ApartLaws.{apart-page_written, same_spelled}
+use Rattle.kernel_forest.specs.Owners.{page_owners}
+use Rattle.kernel_forest.proofs.ApartLaws.{apart-page_written}
 use Rattle.kernel_forest.specs.Moves.{TakesFreshPage, PutsKey, LowersKey}
 use Rattle.kernel_forest.specs.Releases.{KeepsUnreleased}
 use Rattle.kernel_forest.proofs.Bridge.{page_inside}
@@ -60,15 +61,16 @@ memory_real : (kernel : Kernel) (page : ℕ) → page ≢ 0 → memory_page kern
 memory_real kernel page real = rw (ne_eqb page 0 real) refl
 
 -- a fresh page, as a copy of page 0
-pub copies_zero : (old new : Kernel) (found fresh : ℕ) (to : Owner) → found ≡ 0 → old.page_zero ≡ zero_page → TakesFreshPage old new fresh to → CopiesPage old new found fresh to
-copies_zero old new found fresh to none zero takes = record {
+pub copies_zero : (old new : Kernel) (found fresh : ℕ) (by : PageOwner) (to : Owner) → found ≡ 0 → old.page_zero ≡ zero_page → TakesFreshPage old new fresh by to
+    → CopiesPage old new found fresh by to
+copies_zero old new found fresh by to none zero takes = record {
   takes = record {
     inside = takes.inside;
     forest_now = takes.forest_now;
     outside_now = takes.outside_now;
     rows_now = takes.rows_now;
     apart_now = takes.apart_now;
-    spelled_now = takes.spelled_now;
+    owners_now = takes.owners_now;
     rest = subst (λ (k : Kernel). KeepsUnreleased old k) (sym takes.rest) refl;
     nodes = ap (λ (k : Kernel). k.machine.nodes_taken) takes.rest;
     pages = ap (λ (k : Kernel). k.machine.pages_taken) takes.rest;
@@ -81,8 +83,8 @@ copies_zero old new found fresh to none zero takes = record {
 }
 
 -- what must hold so that the bytes may be copied
-module _ (old mid : Kernel) (found fresh : ℕ) (to : Owner) (good : BankGood old) (real : found ≢ 0) (owned : IsSome ((forest_of old).owner (PageObject found)))
-    (takes : TakesFreshPage old mid fresh to) where
+module _ (old mid : Kernel) (found fresh : ℕ) (by : PageOwner) (to : Owner) (good : BankGood old) (real : found ≢ 0) (owned : IsSome ((forest_of old).owner (PageObject found)))
+    (takes : TakesFreshPage old mid fresh by to) where
   size_same : mid.size ≡ old.size
   size_same = ap (λ (k : Kernel). k.size) takes.rest
 
@@ -99,7 +101,7 @@ module _ (old mid : Kernel) (found fresh : ℕ) (to : Owner) (good : BankGood ol
   pub copy_apart : found ≢ fresh
   copy_apart e = some_not_none ((forest_of old).owner (PageObject found)) owned (ap (λ n. (forest_of old).owner (PageObject n)) e ∙ takes.unowned)
 
-  pub copies_page : (new : Kernel) → BankGood mid → new ≡ record mid { bank = with_bank_page mid fresh (bank_page mid found) } → CopiesPage old new found fresh to
+  pub copies_page : (new : Kernel) → BankGood mid → new ≡ record mid { bank = with_bank_page mid fresh (bank_page mid found) } → CopiesPage old new found fresh by to
   copies_page new good_mid written =
       let within : fresh - first_page mid.size < length mid.bank = (let low = copy_to.low in let high = copy_to.high in let pages = good_mid.pages.pages in omega arith) in
       record {
@@ -112,7 +114,7 @@ module _ (old mid : Kernel) (found fresh : ℕ) (to : Owner) (good : BankGood ol
               ∙ apart-page_written mid fresh (bank_page mid found) (ap (λ (f : Forest). is_some (f.owner (PageObject fresh))) takes.forest_now
               ∙ ap is_some (with_object-here (forest_of old).owner (PageObject fresh) (Some to)))
               ∙ takes.apart_now;
-          spelled_now = λ place some. same_spelled mid new (ap (λ (k : Kernel). k.keys) written) place (takes.spelled_now place some);
+          owners_now = ap page_owners written ∙ takes.owners_now;
           rest = unreleased_trans old mid new (subst (λ (k : Kernel). KeepsUnreleased old k) (sym takes.rest) refl) (subst (λ (k : Kernel). KeepsUnreleased mid k) (sym written) refl);
           nodes = ap (λ (k : Kernel). k.machine.nodes_taken) written ∙ ap (λ (k : Kernel). k.machine.nodes_taken) takes.rest;
           pages = ap (λ (k : Kernel). k.machine.pages_taken) written ∙ ap (λ (k : Kernel). k.machine.pages_taken) takes.rest;
@@ -142,7 +144,7 @@ lowers_zero kernel page writable none = record {
     outside_now = λ outside. refl;
     rows_now = λ mine apart. refl;
     apart_now = refl;
-    spelled_now = λ place some. some;
+    owners_now = refl;
     rest = refl;
     number = sym (add-zero kernel.machine.nodes_taken);
   };
@@ -150,7 +152,8 @@ lowers_zero kernel page writable none = record {
 }
 
 -- what must hold so that the copy may be put
-module _ (k0 k1 : Kernel) (place found fresh : ℕ) (to : Owner) (stands : at (forest_of k0).keys place ≡ page_key found) (c : CopiesPage k0 k1 found fresh to) where
+module _ (k0 k1 : Kernel) (place found fresh : ℕ) (by : PageOwner) (to : Owner) (stands : at (forest_of k0).keys place ≡ page_key found)
+    (c : CopiesPage k0 k1 found fresh by to) where
   pub copy_owned : (node : ℕ) → IsSome ((forest_of k0).owner (NodeObject node)) → IsSome ((forest_of k1).owner (NodeObject node))
   copy_owned node owned =
       ap (λ (f : Forest). is_some (f.owner (NodeObject node))) c.takes.forest_now
@@ -182,9 +185,9 @@ single_count kernel page good real owned count is =
     rw (ne_eqb page 0 real) (ap (λ n. n == 1) (sym same))
 
 -- the copy is put in place of the page, which is counted once less
-pub copies_leaf : (k0 k1 k2 k3 : Kernel) (place found fresh : ℕ) (to : Owner) → at (forest_of k0).keys place ≡ page_key found
-    → CopiesPage k0 k1 found fresh to → PutsKey k1 k2 place (page_key fresh) → LowersKey k2 k3 (page_key found) → CopiesLeaf k0 k3 place found fresh to
-copies_leaf k0 k1 k2 k3 place found fresh to stands c puts lowers =
+pub copies_leaf : (k0 k1 k2 k3 : Kernel) (place found fresh : ℕ) (by : PageOwner) (to : Owner) → at (forest_of k0).keys place ≡ page_key found
+    → CopiesPage k0 k1 found fresh by to → PutsKey k1 k2 place (page_key fresh) → LowersKey k2 k3 (page_key found) → CopiesLeaf k0 k3 place found fresh by to
+copies_leaf k0 k1 k2 k3 place found fresh by to stands c puts lowers =
     let size : k1.size ≡ k0.size = ap (λ (k : Kernel). k.size) c.takes.rest in
     let still : at (forest_of k1).keys place ≡ page_key found = ap (λ (f : Forest). at f.keys place) c.takes.forest_now ∙ stands in
     record {
@@ -196,7 +199,7 @@ copies_leaf k0 k1 k2 k3 place found fresh to stands c puts lowers =
         outside_now = λ outside. lowers.steps.outside_now outside ∙ puts.steps.outside_now outside ∙ c.takes.outside_now outside;
         rows_now = λ mine apart. lowers.steps.rows_now mine apart ∙ puts.steps.rows_now mine apart ∙ c.takes.rows_now mine apart;
         apart_now = lowers.steps.apart_now ∙ puts.steps.apart_now ∙ c.takes.apart_now;
-        spelled_now = λ place some. lowers.steps.spelled_now place (puts.steps.spelled_now place (c.takes.spelled_now place some));
+        owners_now = lowers.steps.owners_now ∙ puts.steps.owners_now ∙ c.takes.owners_now;
         rest = unreleased_trans k0 k1 k3 c.takes.rest (unreleased_trans k1 k2 k3 (unreleased k1 k2 puts.steps.rest) (unreleased k2 k3 lowers.steps.rest));
         nodes = lowers.steps.number ∙ add-zero k2.machine.nodes_taken ∙ puts.steps.number ∙ add-zero k1.machine.nodes_taken ∙ c.takes.nodes;
         pages = ap (λ (k : Kernel). k.machine.pages_taken) lowers.steps.rest ∙ ap (λ (k : Kernel). k.machine.pages_taken) puts.steps.rest ∙ c.takes.pages;

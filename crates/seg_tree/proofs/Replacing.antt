@@ -19,6 +19,7 @@ use Rattle.forest.proofs.OwnMaps.{way_of_node, length-node_way}
 use Rattle.forest.proofs.ReachLaws.{way_owner}
 use Rattle.forest.proofs.WalkLaws.{step}
 use Rattle.kernel_forest.proofs.ApartLaws.{inside_same}
+use Rattle.kernel_forest.proofs.Owners.{keeps-leaves}
 use Rattle.kernel_forest.specs.Trees.{forest_of, outside_trees, TreesGood}
 use Rattle.kernel_forest.specs.Moves.{RaisesKey, MayRaise, LowersKey}
 use Rattle.kernel_forest.proofs.Giving.{lets_step, keeps_bytes}
@@ -90,7 +91,7 @@ real_named id writable real = rw (ne_eqb id.0 0 real) refl
 -- a key in hand is released where what it names is counted more than once
 lets_lowered : (old new : Kernel) (key : Key) → IsMany (forest_of old) (named key) → LowersKey old new key → Lets old new (key ∷ []) []
 lets_lowered old new key many lowers =
-    lets_step old new key (lowered (forest_of old) key) lowers.steps.forest_now lowers.steps.outside_now lowers.steps.rows_now lowers.steps.apart_now lowers.steps.spelled_now (unreleased old new lowers.steps.rest)
+    lets_step old new key (lowered (forest_of old) key) lowers.steps.forest_now lowers.steps.outside_now lowers.steps.rows_now lowers.steps.apart_now (keeps-leaves old new lowers.steps.owners_now) (unreleased old new lowers.steps.rest)
     (keeps_bytes old new (lowered (forest_of old) key) lowers.steps.forest_now
     (λ object some. ap (λ (o : Object → Option Owner). is_some (o object)) (sym (less_owner (forest_of old) (named key))) ∙ some) (same_bytes old new lowers.steps.rest))
     lowers.shares
@@ -218,7 +219,7 @@ module _ (k0 : Kernel) (space page : ℕ) (writable : Bool) (id : PageId) (good 
         outside_now = λ outside. lowers.steps.outside_now outside ∙ put.outside_now outside ∙ raises.steps.outside_now outside;
         rows_now = λ mine apart. lowers.steps.rows_now mine apart ∙ put.rows_now mine apart ∙ raises.steps.rows_now mine apart;
         apart_now = lowers.steps.apart_now ∙ put.apart_now ∙ raises.steps.apart_now;
-        spelled_now = λ place some. lowers.steps.spelled_now place (put.spelled_now place (raises.steps.spelled_now place some));
+        owners_now = lowers.steps.owners_now ∙ put.owners_now ∙ raises.steps.owners_now;
         inside = λ outside. inside_same k0 k3 outside (lowers.steps.outside_now outside ∙ put.outside_now outside ∙ raises.steps.outside_now outside)
             (λ number some.
             let between = ap (λ (o : Object → Option Owner). is_some (o (PageObject number))) (ap (λ (f : Forest). f.owner) lowers.steps.forest_now ∙ less_owner (forest_of k2) (named (Page id writable))) in

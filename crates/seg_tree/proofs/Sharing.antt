@@ -231,7 +231,7 @@ module _ (k0 k1 : Kernel) (space fresh : NodeId) (to : Owner) (known : Outside) 
     outside_now = steps.outside_now;
     rows_now = steps.rows_now;
     apart_now = steps.apart_now;
-    spelled_now = steps.spelled_now;
+    owners_now = steps.owners_now;
     inside = λ outside. inside_same k0 k2 outside (steps.outside_now outside)
         (λ number some.
         let same = ap (λ (f : Forest). f.owner (PageObject number)) forest_is ∙ ap (λ (o : Object → Option Owner). o (PageObject number)) all.owner ∙ other_object (forest_of k0).owner (NodeObject fresh.0) (Some to) (PageObject number) (λ e. cc) in

@@ -10,7 +10,8 @@ use Rattle.forest.specs.Objects.{Object, PageObject, NodeObject}
 use Rattle.forest.specs.Walks.{map_of, mapping_of}
 use Rattle.forest.specs.Forest.{FitsUnder, NoneEmpty, NoneEmptyBut, EndsAt, node_way}
 use Rattle.forest.specs.Calls.{ChangesMap}
-use Rattle.kernel_forest.specs.Apart.{KeepsApart, KeepsSpelled}
+use Rattle.kernel_forest.specs.Apart.{KeepsApart}
+use Rattle.kernel_forest.specs.Owners.{KeepsOwners}
 use Rattle.kernel_forest.specs.Trees.{forest_of, outside_trees, TreesGood}
 use Rattle.kernel_forest.specs.Moves.{KeepsRest}
 use Rattle.kernel_forest.specs.Releases.{Releasing, Lets}
@@ -36,7 +37,7 @@ pub record PutsLeaf (old new : Kernel) (space page : ℕ) (key was : Key) : Type
   pub outside_now : (outside : Outside) → outside_trees new outside ≡ outside_trees old outside
   pub rows_now : KeepsRows old new
   pub apart_now : KeepsApart old new
-  pub spelled_now : KeepsSpelled old new
+  pub owners_now : KeepsOwners old new
   pub pages_now : (number : ℕ) → (forest_of new).owner (PageObject number) ≡ (forest_of old).owner (PageObject number)
   pub rest : KeepsRest old new
   pub most : new.machine.nodes_taken ≤ old.machine.nodes_taken + 4

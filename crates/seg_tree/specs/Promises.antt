@@ -1,5 +1,5 @@
 -- What calls on spaces promise, in the words of the tables. Each keeps what holds of trees, whatever is outside. And each
--- leaves whatever belongs to no tree as it is, a key at each place at which one was spelled, and pages of trees to keys of trees.
+-- leaves whatever belongs to no tree as it is, each page to its owner, and pages of trees to keys of trees.
 use Rattle.std.specs.Prelude.{◌≡◌, ◌≤◌, ◌+◌, ◌↔◌, ℕ, Option, Some, None, IsSome, []}
 use Rattle.kn_base.specs.declared.key.Key.{Key}
 use Rattle.kernel_tables.specs.Kernel.{Kernel, IsBankPage, bank_page}
@@ -11,7 +11,8 @@ use Rattle.forest.specs.Walks.{Mapping, place_of, space_key}
 use Rattle.forest.specs.Forest.{NoneEmpty, namings}
 use Rattle.forest.specs.Calls.{ChangesMap, AddsSpace, DropsSpace}
 use Rattle.unix_model.specs.Tables.{at}
-use Rattle.kernel_forest.specs.Apart.{KeepsApart, KeepsSpelled, KeepsInside}
+use Rattle.kernel_forest.specs.Apart.{KeepsApart, KeepsInside}
+use Rattle.kernel_forest.specs.Owners.{KeepsOwners, LeavesOwners}
 use Rattle.kernel_forest.specs.Trees.{forest_of, outside_trees, TreesGood}
 use Rattle.kernel_forest.specs.Moves.{KeepsRest}
 use Rattle.kernel_forest.specs.Releases.{KeepsUnreleased, KeepsBytes}
@@ -28,7 +29,7 @@ pub record Remaps (old new : Kernel) (space few : ℕ) (map : ℕ → Option Map
   pub outside_now : (outside : Outside) → outside_trees new outside ≡ outside_trees old outside
   pub rows_now : KeepsRows old new
   pub apart_now : KeepsApart old new
-  pub spelled_now : KeepsSpelled old new
+  pub owners_now : KeepsOwners old new
   pub inside : (outside : Outside) → KeepsInside old new outside
   pub rest : KeepsRest old new
   pub most : new.machine.nodes_taken ≤ old.machine.nodes_taken + few
@@ -40,7 +41,7 @@ pub record Replaces (old new : Kernel) (space few : ℕ) (map : ℕ → Option M
   pub outside_now : (outside : Outside) → outside_trees new outside ≡ outside_trees old outside
   pub rows_now : KeepsRows old new
   pub apart_now : KeepsApart old new
-  pub spelled_now : KeepsSpelled old new
+  pub owners_now : LeavesOwners old new
   pub inside : (outside : Outside) → KeepsInside old new outside
   pub rest : KeepsUnreleased old new
   pub bytes : (number : ℕ) → IsBankPage old.size number
@@ -59,7 +60,7 @@ pub record Adds (old new : Kernel) (space : ℕ) (owner : Option Owner) (keeper 
   pub outside_now : (outside : Outside) → outside_trees new outside ≡ outside_trees old outside
   pub rows_now : KeepsRows old new
   pub apart_now : KeepsApart old new
-  pub spelled_now : KeepsSpelled old new
+  pub owners_now : KeepsOwners old new
   pub inside : (outside : Outside) → KeepsInside old new outside
   pub rest : KeepsRest old new
   pub number : new.machine.nodes_taken ≡ old.machine.nodes_taken + 1
@@ -75,7 +76,7 @@ pub record Drops (old new : Kernel) (space : ℕ) : Type 0 where
   pub outside_now : (outside : Outside) → outside_trees new outside ≡ outside_trees old outside
   pub rows_now : KeepsRows old new
   pub apart_now : KeepsApart old new
-  pub spelled_now : KeepsSpelled old new
+  pub owners_now : LeavesOwners old new
   pub inside : (outside : Outside) → KeepsInside old new outside
   pub rest : KeepsUnreleased old new
   pub keeps : KeepsBytes old new

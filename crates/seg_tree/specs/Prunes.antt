@@ -9,7 +9,8 @@ use Rattle.forest.specs.Objects.{Object, PageObject, NodeObject}
 use Rattle.forest.specs.Walks.{map_of}
 use Rattle.forest.specs.Forest.{IsSpace, namings}
 use Rattle.forest.specs.Changes.{with_key, with_given, KeepsRoot}
-use Rattle.kernel_forest.specs.Apart.{KeepsApart, KeepsSpelled}
+use Rattle.kernel_forest.specs.Apart.{KeepsApart}
+use Rattle.kernel_forest.specs.Owners.{LeavesOwners}
 use Rattle.kernel_forest.specs.Trees.{forest_of, outside_trees, TreesGood}
 use Rattle.kernel_forest.specs.Releases.{KeepsUnreleased}
 use Rattle.seg_tree.specs.Ways.{KeepsOtherWays, KeepsMappedWays}
@@ -21,7 +22,7 @@ pub record TakesOff (old new : Kernel) (place node : ℕ) : Type 0 where
   pub outside_now : (outside : Outside) → outside_trees new outside ≡ outside_trees old outside
   pub rows_now : KeepsRows old new
   pub apart_now : KeepsApart old new
-  pub spelled_now : KeepsSpelled old new
+  pub owners_now : LeavesOwners old new
   pub rest : KeepsUnreleased old new
   pub bank : new.bank ≡ old.bank
   pub fewer : new.machine.nodes_taken ≤ old.machine.nodes_taken
@@ -39,7 +40,7 @@ pub record Prunes (old new : Kernel) : Type 0 where
   pub outside_now : (outside : Outside) → outside_trees new outside ≡ outside_trees old outside
   pub rows_now : KeepsRows old new
   pub apart_now : KeepsApart old new
-  pub spelled_now : KeepsSpelled old new
+  pub owners_now : LeavesOwners old new
   pub rest : KeepsUnreleased old new
   pub bank : new.bank ≡ old.bank
   pub pages : (number : ℕ) → (forest_of new).owner (PageObject number) ≡ (forest_of old).owner (PageObject number)

@@ -12,7 +12,8 @@ use Rattle.forest.specs.Forest.{Forest, Sound, FitsUnder, CountedOnce, EndsAt}
 use Rattle.forest.specs.Descent.{MadeOwn}
 use Rattle.forest.specs.Changes.{raised, with_key, with_copy, IsFree}
 use Rattle.kernel_tables.specs.Rows.{KeepsRows}
-use Rattle.kernel_forest.specs.Apart.{KeepsApart, KeepsSpelled}
+use Rattle.kernel_forest.specs.Apart.{KeepsApart}
+use Rattle.kernel_forest.specs.Owners.{KeepsOwners}
 use Rattle.kernel_forest.specs.Moves.{KeepsRest, MayRaise, Changes}
 use Rattle.kernel_forest.specs.Trees.{TreesGood, forest_of, outside_trees, IsTreeKey, AreTreeKeys}
 
@@ -81,7 +82,7 @@ pub record Descends (old new : Kernel) (outside : Outside) (hand : List Key) (sp
   pub outside_now : (all : Outside) → outside_trees new all ≡ outside_trees old all
   pub rows_now : KeepsRows old new
   pub apart_now : KeepsApart old new
-  pub spelled_now : KeepsSpelled old new
+  pub owners_now : KeepsOwners old new
   pub rest : KeepsRest old new
   pub number : new.machine.nodes_taken ≡ old.machine.nodes_taken + taken
   pub few : taken ≤ length way

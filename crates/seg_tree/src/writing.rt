@@ -28,7 +28,7 @@ use space_bank::{copy_page, page_count, take_page};
 fn take_tree_page<T: Store>(store: &mut T, owner: PageOwner) -> PageId
     requires good { BankGood (kernel_of (T.memory store.old)) }
     requires room { let old = kernel_of (T.memory store.old) in old.machine.pages_taken < old.size }
-    ensures taken { (to : Owner) → page_tree owner ≡ Some to → TakesFreshPage (kernel_of (T.memory store.old)) (kernel_of (T.memory store.new)) result.0 to }
+    ensures taken { (to : Owner) → page_tree owner ≡ Some to → TakesFreshPage (kernel_of (T.memory store.old)) (kernel_of (T.memory store.new)) result.0 owner to }
     ensures good { BankGood (kernel_of (T.memory store.new)) }
     ensures blocks { ChangesAtMost (T.blocks store.old) (T.blocks store.new) 2 }
     ensures keeps { T.keeps store.old store.new }
@@ -46,7 +46,7 @@ fn take_copy<T: Store>(store: &mut T, found: PageId, owner: PageOwner) -> PageId
     requires room { let old = kernel_of (T.memory store.old) in old.machine.pages_taken < old.size }
     requires zero { (kernel_of (T.memory store.old)).page_zero ≡ zero_page }
     requires owned { found.0 ≢ 0 → IsSome ((forest_of (kernel_of (T.memory store.old))).owner (PageObject found.0)) }
-    ensures copied { (to : Owner) → page_tree owner ≡ Some to → CopiesPage (kernel_of (T.memory store.old)) (kernel_of (T.memory store.new)) found.0 result.0 to }
+    ensures copied { (to : Owner) → page_tree owner ≡ Some to → CopiesPage (kernel_of (T.memory store.old)) (kernel_of (T.memory store.new)) found.0 result.0 owner to }
     ensures good { BankGood (kernel_of (T.memory store.new)) }
     ensures blocks { ChangesAtMost (T.blocks store.old) (T.blocks store.new) 3 }
     ensures keeps { T.keeps store.old store.new }
@@ -75,7 +75,7 @@ fn copy_leaf<T: Store>(
     requires digit { digit < 16 }
     requires stands { at (forest_of (kernel_of (T.memory store.old))).keys (place_of node.0 digit) ≡ page_key found.0 }
     requires shared { found.0 ≢ 0 → 2 ≤ (forest_of (kernel_of (T.memory store.old))).count (PageObject found.0) }
-    ensures copied { (to : Owner) → page_tree owner ≡ Some to → CopiesLeaf (kernel_of (T.memory store.old)) (kernel_of (T.memory store.new)) (place_of node.0 digit) found.0 result.0 to }
+    ensures copied { (to : Owner) → page_tree owner ≡ Some to → CopiesLeaf (kernel_of (T.memory store.old)) (kernel_of (T.memory store.new)) (place_of node.0 digit) found.0 result.0 owner to }
     ensures good { BankGood (kernel_of (T.memory store.new)) }
     ensures blocks { ChangesAtMost (T.blocks store.old) (T.blocks store.new) 5 }
     ensures keeps { T.keeps store.old store.new }

@@ -12,6 +12,8 @@ pub mod guarded;
 #[cfg(test)]
 mod names;
 #[cfg(test)]
+mod owners;
+#[cfg(test)]
 mod pieces;
 #[cfg(test)]
 mod plain;

@@ -15,8 +15,8 @@ use std::process::Abort;
 use std::test::Fail;
 use unix_model::Errno;
 
-// A new directory.
-fn new_directory<T: Store>(rt: &impl Abort, store: &mut T) -> u32
+/// A new directory.
+pub fn new_directory<T: Store>(rt: &impl Abort, store: &mut T) -> u32
     requires good { FilesGood (kernel_of (T.memory store.old)) }
     ensures good { FilesGood (kernel_of (T.memory store.new)) }
 {
@@ -26,8 +26,8 @@ fn new_directory<T: Store>(rt: &impl Abort, store: &mut T) -> u32
     }
 }
 
-// Adds so many names.
-fn add_names<T: Store>(rt: &impl Abort, store: &mut T, dir: u32, inode: u32, count: u32)
+/// Adds so many names.
+pub fn add_names<T: Store>(rt: &impl Abort, store: &mut T, dir: u32, inode: u32, count: u32)
     requires good { FilesGood (kernel_of (T.memory store.old)) }
     ensures good { FilesGood (kernel_of (T.memory store.new)) }
 {

@@ -68,7 +68,7 @@ maps_none old space loads is empty = record {
   outside_now = λ outside. refl;
   rows_now = λ mine apart. refl;
   apart_now = refl;
-  spelled_now = λ place some. some;
+  owners_now = refl;
   inside = λ outside within. within;
   rest = refl;
   most = omega arith;
@@ -90,7 +90,7 @@ module _ (k0 k1 : Kernel) (space page : ℕ) (loads : List Load) (so_far : MapsP
     outside_now = so_far.outside_now;
     rows_now = so_far.rows_now;
     apart_now = so_far.apart_now;
-    spelled_now = so_far.spelled_now;
+    owners_now = so_far.owners_now;
     inside = so_far.inside;
     rest = so_far.rest;
     most = let count : count_below (page_mapped loads) (page + 1) ≡ count_below (page_mapped loads) page = count_below-step (page_mapped loads) page ∙ rw other (omega arith) in
@@ -121,7 +121,7 @@ module _ (k0 k1 : Kernel) (space page : ℕ) (loads : List Load) (so_far : MapsP
         outside_now = λ outside. maps.outside_now outside ∙ so_far.outside_now outside;
         rows_now = λ mine apart. maps.rows_now mine apart ∙ so_far.rows_now mine apart;
         apart_now = maps.apart_now ∙ so_far.apart_now;
-        spelled_now = λ place some. maps.spelled_now place (so_far.spelled_now place some);
+        owners_now = maps.owners_now ∙ so_far.owners_now;
         inside = λ outside within. maps.inside outside (so_far.inside outside within);
         rest = rest_trans k0 k1 k2 so_far.rest maps.rest;
         most = let count : count_below (page_mapped loads) (page + 1) ≡ count_below (page_mapped loads) page + 1 = count_below-step (page_mapped loads) page ∙ rw needed refl in

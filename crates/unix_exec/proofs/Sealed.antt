@@ -71,7 +71,7 @@ seals_none old space loads is = record {
   outside_now = λ outside. refl;
   rows_now = λ mine apart. refl;
   apart_now = refl;
-  spelled_now = λ place some. some;
+  owners_now = refl;
   inside = λ outside within. within;
   rest = refl;
   nodes = refl;
@@ -93,7 +93,7 @@ module _ (k0 k1 : Kernel) (space page : ℕ) (loads : List Load) (so_far : Seals
     outside_now = so_far.outside_now;
     rows_now = so_far.rows_now;
     apart_now = so_far.apart_now;
-    spelled_now = so_far.spelled_now;
+    owners_now = so_far.owners_now;
     inside = so_far.inside;
     rest = so_far.rest;
     nodes = so_far.nodes;
@@ -123,7 +123,7 @@ module _ (k0 k1 : Kernel) (space page : ℕ) (loads : List Load) (so_far : Seals
         outside_now = λ outside. maps.outside_now outside ∙ so_far.outside_now outside;
         rows_now = λ mine apart. maps.rows_now mine apart ∙ so_far.rows_now mine apart;
         apart_now = maps.apart_now ∙ so_far.apart_now;
-        spelled_now = λ place some. maps.spelled_now place (so_far.spelled_now place some);
+        owners_now = maps.owners_now ∙ so_far.owners_now;
         inside = λ outside within. maps.inside outside (so_far.inside outside within);
         rest = rest_trans k0 k1 k2 so_far.rest maps.rest;
         nodes = none ∙ so_far.nodes;

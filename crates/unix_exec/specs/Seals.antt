@@ -10,7 +10,8 @@ use Rattle.forest.specs.Forest.{IsSpace, NoneEmpty}
 use Rattle.forest.specs.Changes.{KeepsRoot}
 use Rattle.forest.specs.Calls.{KeepsOthers}
 use Rattle.kernel_forest.specs.Trees.{forest_of, outside_trees, TreesGood}
-use Rattle.kernel_forest.specs.Apart.{KeepsApart, KeepsSpelled, KeepsInside}
+use Rattle.kernel_forest.specs.Apart.{KeepsApart, KeepsInside}
+use Rattle.kernel_forest.specs.Owners.{KeepsOwners}
 use Rattle.kernel_forest.specs.Moves.{KeepsRest}
 use Rattle.seg_tree.specs.Ways.{HasOwnWay}
 
@@ -38,7 +39,7 @@ pub record SealsPlan (old new : Kernel) (space : ℕ) (loads : List Load) (limit
   pub outside_now : (outside : Outside) → outside_trees new outside ≡ outside_trees old outside
   pub rows_now : KeepsRows old new
   pub apart_now : KeepsApart old new
-  pub spelled_now : KeepsSpelled old new
+  pub owners_now : KeepsOwners old new
   pub inside : (outside : Outside) → KeepsInside old new outside
   pub rest : KeepsRest old new
   pub nodes : new.machine.nodes_taken ≡ old.machine.nodes_taken

@@ -4,6 +4,7 @@ use Rattle.std.specs.Option.{is_some, IsSome}
 use Rattle.std.proofs.lemmas.List.{length-take-le, take_all, take-append-drop}
 use Rattle.kn_base.proofs.RowLaws.{length-part_at}
 use Rattle.std.proofs.lemmas.Bool.{cases_eq, cases_lt, eq-eqb, ne_eqb}
+use Rattle.kernel_tables.specs.declared.entry.PageOwner.{PageOwner}
 use Rattle.kernel_tables.specs.Kernel.{Kernel, IsBankPage, memory_page}
 use Rattle.space_bank.specs.Bank.{BankGood}
 use Rattle.unix_model.specs.Memory.{Memory, Page, with_bytes, is_writable, all_writable}
@@ -12,10 +13,13 @@ use Rattle.forest.specs.Forest.{Forest, IsSpace, Sound}
 use Rattle.forest.specs.Calls.{IsOwn}
 use Rattle.forest.proofs.RootLaws.{root_trans}
 use Rattle.kernel_forest.specs.Trees.{forest_of}
+use Rattle.kernel_forest.specs.Owners.{page_owners, PagesAreOf, TakesFor}
+use Rattle.kernel_forest.proofs.Owners.{takes-takes}
 use Rattle.seg_tree.proofs.Emptying.{unreleased_trans}
 use Rattle.user_copy.specs.SpaceMemory.{page_of, space_memory}
 use Rattle.seg_tree.specs.Writes.{writable_mapping, may_write}
-use Rattle.user_copy.specs.Writing.{MakesOwn, IsOwnInTurn, CountsPage, is_own, is_other, NotOwn, pages_touched, PutsPiece, PutsBytes}
+use Rattle.seg_tree.specs.Ways.{HasOwnWay}
+use Rattle.user_copy.specs.Writing.{MakesOwn, IsOwnInTurn, CountsPage, is_own, is_other, NotOwn, pages_touched, owner_for, PutsPiece, PutsBytes}
 use Rattle.user_copy.proofs.Bytes.{bytes_put, bytes_put_more, each_may, all_may, Writable, page_may, may_elsewhere}
 use Rattle.user_copy.proofs.Pages.{found_inside, memory_found, memory_none, memory_far}
 use Rattle.user_copy.proofs.Pieces.{WholePages}
@@ -165,12 +169,14 @@ nothing_put kernel space address [] none = record {
   roots = λ other is. record { was = is; owner = refl; keeper = refl };
   here = refl;
   others = λ other was apart. refl;
+  maps = λ other was apart. refl;
   own = λ page touched. absurd (let some : 0 < 0 = touched.0 in omega arith);
   filled = λ was. was;
   outside_now = λ outside. refl;
   rows_now = λ mine apart. refl;
   apart_now = refl;
-  spelled_now = λ place some. some;
+  owners_now = λ page. inl refl;
+  owned = λ are. are;
   inside = λ outside was within. within;
   rest = refl;
   pages = λ number page off. refl;
@@ -179,11 +185,13 @@ nothing_put kernel space address [] none = record {
   mapped = λ page some. some;
   ways = λ mine page still own. own;
   most = omega arith;
+  none = λ ways. refl;
 }
 
 -- ---- one piece
 
-module _ (k0 k1 : Kernel) (space address : ℕ) (bytes : List ℕ) (is : IsSpace (forest_of k0) [] space) (piece : PutsPiece k0 k1 space address bytes)
+module _ (k0 k1 : Kernel) (space address : ℕ) (bytes : List ℕ) (owner : PageOwner) (which : owner ≡ owner_for k0 space)
+    (is : IsSpace (forest_of k0) [] space) (piece : PutsPiece k0 k1 space address bytes owner)
     (some : 0 < length bytes) (inside : address % 4096 + length bytes ≤ 4096) where
   pub one_piece : PutsBytes k0 k1 space address bytes
   one_piece = record {
@@ -192,6 +200,7 @@ module _ (k0 k1 : Kernel) (space address : ℕ) (bytes : List ℕ) (is : IsSpace
     roots = piece.owns.roots;
     here = piece.here;
     others = piece.others;
+    maps = piece.owns.others;
     own = λ page touched.
         let low : address / 4096 ≤ page = touched.1 in
         let high : 4096 * page < address + length bytes = touched.2 in
@@ -201,7 +210,8 @@ module _ (k0 k1 : Kernel) (space address : ℕ) (bytes : List ℕ) (is : IsSpace
     outside_now = piece.outside_now;
     rows_now = piece.rows_now;
     apart_now = piece.apart_now;
-    spelled_now = piece.spelled_now;
+    owners_now = subst (λ o. TakesFor o k0 k1) which piece.owners_now;
+    owned = subst (λ o. PagesAreOf o (page_owners k0) (map_of (forest_of k0).keys space) → PagesAreOf o (page_owners k1) (map_of (forest_of k1).keys space)) which piece.owned;
     inside = piece.inside;
     rest = piece.rest;
     pages = λ number page off. piece.pages number page (λ e.
@@ -219,13 +229,14 @@ module _ (k0 k1 : Kernel) (space address : ℕ) (bytes : List ℕ) (is : IsSpace
     mapped = still_mapped (forest_of k0) (forest_of k1) space (address / 4096) piece.result is piece.owns;
     ways = piece.ways;
     most = let most = piece.most in omega arith;
+    none = λ ways. piece.none (ways (address / 4096) (some, omega arith, omega arith));
   }
 
 -- ---- two pieces
 
-module _ (k0 k1 k2 : Kernel) (space address next : ℕ) (first rest : List ℕ) (is : IsSpace (forest_of k0) [] space)
+module _ (k0 k1 k2 : Kernel) (space address next : ℕ) (first rest : List ℕ) (owner : PageOwner) (which : owner ≡ owner_for k0 space) (is : IsSpace (forest_of k0) [] space)
     (begins : next ≡ address + length first) (full : address % 4096 + length first ≡ 4096) (some : 0 < length rest) (few : address % 4096 + (length first + length rest) ≤ 8192)
-    (a : PutsPiece k0 k1 space address first) (b : PutsPiece k1 k2 space next rest) where
+    (a : PutsPiece k0 k1 space address first owner) (b : PutsPiece k1 k2 space next rest owner) where
   next_page : next / 4096 ≡ address / 4096 + 1
   next_page = omega arith
 
@@ -307,12 +318,15 @@ module _ (k0 k1 k2 : Kernel) (space address next : ℕ) (first rest : List ℕ) 
         root_trans (forest_of k0) (forest_of k1) (forest_of k2) [] [] other (a.owns.roots other last.was) last;
     here = memory_here;
     others = λ other was apart. b.others other ((a.owns.spaces other).0 was) apart ∙ a.others other was apart;
+    maps = λ other was apart. b.owns.others other ((a.owns.spaces other).0 was) apart ∙ a.owns.others other was apart;
     own = λ p touched. own_pages p touched.1 touched.2;
     filled = λ was. b.filled (a.filled was);
     outside_now = λ outside. b.outside_now outside ∙ a.outside_now outside;
     rows_now = λ mine apart. b.rows_now mine apart ∙ a.rows_now mine apart;
     apart_now = b.apart_now ∙ a.apart_now;
-    spelled_now = λ place some. b.spelled_now place (a.spelled_now place some);
+    owners_now = subst (λ o. TakesFor o k0 k2) which (takes-takes owner k0 k1 k2 a.owners_now b.owners_now);
+    owned = subst (λ o. PagesAreOf o (page_owners k0) (map_of (forest_of k0).keys space) → PagesAreOf o (page_owners k2) (map_of (forest_of k2).keys space)) which
+        (λ are. b.owned (a.owned are));
     inside = λ outside was within. b.inside outside (a.trees outside was) (a.inside outside was within);
     rest = unreleased_trans k0 k1 k2 a.rest b.rest;
     pages = λ number p off.
@@ -332,6 +346,10 @@ module _ (k0 k1 k2 : Kernel) (space address next : ℕ) (first rest : List ℕ) 
         (still_mapped (forest_of k0) (forest_of k1) space (address / 4096) a.result is a.owns page some);
     ways = λ mine page still own. b.ways mine page ((a.owns.spaces mine).0 still) (a.ways mine page still own);
     most = let m = a.most in let n = b.most in omega arith;
+    none = λ ways.
+        b.none (subst (HasOwnWay k1 space) (sym next_page) (a.ways space (address / 4096 + 1) is
+        (ways (address / 4096 + 1) (omega (arith, length-append first rest), omega arith, omega (arith, length-append first rest)))))
+        ∙ a.none (ways (address / 4096) (omega (arith, length-append first rest), omega arith, omega (arith, length-append first rest)));
   }
 
 -- ---- what may be written
@@ -365,7 +383,7 @@ may_found kernel space address may = go (map_of (forest_of kernel).keys space (a
 
 -- the second page may be written after the first one was
 module _ (k0 k1 : Kernel) (space address next : ℕ) (first : List ℕ) (good : BankGood k0) (sound : Sound (forest_of k0)) (is : IsSpace (forest_of k0) [] space) (lengths : WholePages k0)
-    (begins : next ≡ address + length first) (full : address % 4096 + length first ≡ 4096) (a : PutsPiece k0 k1 space address first) where
+    (begins : next ≡ address + length first) (full : address % 4096 + length first ≡ 4096) (owner : PageOwner) (a : PutsPiece k0 k1 space address first owner) where
   may_still : (target : ℕ) → target / 4096 ≢ address / 4096 → is_writable (space_memory k1 space) target ≡ is_writable (space_memory k0 space) target
   may_still target apart =
       ap (λ (m : Memory). is_writable m target)

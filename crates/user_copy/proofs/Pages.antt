@@ -1,5 +1,5 @@
 -- What the memory of a space has at a page number.
-use Rattle.std.proofs.Common.{◌≡◌, ◌≢◌, ◌≤◌, ◌^◌, ℕ, true, false, nat_lt, Some, None, [], refl, ap, sym, ◌∙◌, ⊎_elim, inl, inr, ◌⊎◌}
+use Rattle.std.proofs.Common.{◌≡◌, ◌≢◌, ◌≤◌, ◌^◌, ℕ, true, false, nat_lt, Option, Some, None, [], refl, ap, sym, ◌∙◌, ⊎_elim, inl, inr, ◌⊎◌}
 use Rattle.std.specs.Prelude.{option_map}
 use Rattle.std.specs.Option.{IsSome}
 use Rattle.std.proofs.lemmas.Bool.{cases_Bool, cases_eq, ne_eqb, le-ltb}
@@ -8,14 +8,15 @@ use Rattle.kn_base.specs.declared.key.Key.TheVariants.{Page as PageKey}
 use Rattle.kernel_tables.specs.Kernel.{Kernel, IsBankPage, memory_page}
 use Rattle.space_bank.specs.Bank.{BankGood}
 use Rattle.unix_model.specs.Tables.{at}
-use Rattle.forest.specs.Objects.{PageObject, named}
+use Rattle.forest.specs.Objects.{PageObject, Owner, OfProcess, OfFile, named}
 use Rattle.forest.specs.Walks.{Mapping, map_of, mapping_of, key_at_page, page_way}
 use Rattle.forest.specs.Forest.{Forest, Sound, IsSpace}
 use Rattle.forest.proofs.CopyLaws.{end_owned}
-use Rattle.kernel_forest.specs.Trees.{forest_of}
+use Rattle.kernel_forest.specs.Trees.{page_tree, forest_of}
 use Rattle.kernel_forest.proofs.Bridge.{page_inside}
 use Rattle.kernel_forest.proofs.Moves.{bank_page as its_page}
 use Rattle.user_copy.specs.SpaceMemory.{page_of, memory_by, space_memory}
+use Rattle.user_copy.specs.Writing.{pages_for}
 
 -- behind the last page number nothing is mapped
 pub map_far : (keys : ℕ → Key) (space page : ℕ) → 2 ^ 19 ≤ page → map_of keys space page ≡ None
@@ -70,3 +71,9 @@ memory_none kernel space page e = memory_is kernel space page ∙ ap (option_map
 
 pub memory_far : (kernel : Kernel) (space page : ℕ) → 2 ^ 19 ≤ page → at (space_memory kernel space) page ≡ None
 memory_far kernel space page far = memory_none kernel space page (map_far (forest_of kernel).keys space page far)
+
+-- the pages that are taken for a tree are of this tree's owner
+pub tree_of_pages : (owner : Option Owner) → IsSome owner → page_tree (pages_for owner) ≡ owner
+tree_of_pages None some = let no : false ≡ true = some in cc
+tree_of_pages (Some OfProcess) some = refl
+tree_of_pages (Some OfFile) some = refl

@@ -14,7 +14,10 @@ use Rattle.unix_model.specs.Tables.{at, with_at}
 use Rattle.unix_model.proofs.TableLaws.{at-with_at, at-with_at-other}
 use Rattle.forest.specs.Walks.{Mapping, map_of}
 use Rattle.forest.specs.Forest.{IsSpace, Sound}
+use Rattle.forest.specs.Calls.{IsOwn}
 use Rattle.kernel_forest.specs.Trees.{forest_of, TreesGood}
+use Rattle.kernel_forest.specs.Owners.{page_owners, PagesAreOf}
+use Rattle.kernel_forest.proofs.Owners.{takes-owned}
 use Rattle.kernel_forest.proofs.ApartLaws.{apart-page_written}
 use Rattle.kernel_forest.specs.Releases.{KeepsUnreleased}
 use Rattle.seg_tree.proofs.Emptying.{unreleased_trans}
@@ -146,7 +149,32 @@ module _ (k0 k1 : Kernel) (space address result : ℕ) (owner : PageOwner) (byte
       let now = (owns.changes outside was).0 in
       record { shares = now.shares; held = now.held; in_hand = now.in_hand; short = now.short; in_trees = now.in_trees; single = now.single }
 
-  puts_here : PutsPiece k0 k2 space address bytes
+  -- the page that was written is the owner's where those of the space were, ..
+  result_owned : PagesAreOf owner (page_owners k0) (map_of (forest_of k0).keys space) → at (page_owners k1) result ≡ Some owner
+  unfolding at
+  result_owned are = ⊎_elim
+      (λ (own : IsOwn (forest_of k0) space (address / 4096) owns.found).
+      ap (at (page_owners k1)) (owns.kept own).0
+      ∙ takes-owned owner k0 k1 owns.found.page owner owns.owners_now (are (address / 4096) owns.found owns.mapped own.real))
+      (λ (shared : IsOwn (forest_of k0) space (address / 4096) owns.found → ⊥).
+      ap (λ (owners : ℕ → Option PageOwner). at owners result) (owns.copied shared).owners_now ∙ at-with_at (page_owners k0) result (Some owner))
+      owns.told
+
+  -- .. and so are all of them
+  pages_owned : PagesAreOf owner (page_owners k0) (map_of (forest_of k0).keys space) → PagesAreOf owner (page_owners k1) (map_of (forest_of k1).keys space)
+  unfolding at
+  pages_owned are number mapping e real = ⊎_elim
+      (λ (t : number ≡ address / 4096).
+      let same : Some mapping ≡ Some (writable_mapping result)
+      = sym e ∙ ap (map_of (forest_of k1).keys space) t ∙ map_here (forest_of k0) (forest_of k1) space (address / 4096) result is made in
+      let it : mapping ≡ writable_mapping result = cc in
+      ap (λ (m : Mapping). at (page_owners k1) m.page) it ∙ result_owned are)
+      (λ (t : number ≡ address / 4096 → ⊥).
+      takes-owned owner k0 k1 mapping.page owner owns.owners_now
+      (are number mapping (sym (map_there (forest_of k0) (forest_of k1) space (address / 4096) result is made number t) ∙ e) real))
+      (cases_eq number (address / 4096))
+
+  puts_here : PutsPiece k0 k2 space address bytes owner
   puts_here = record {
     result = result;
     found = owns.found;
@@ -161,7 +189,8 @@ module _ (k0 k1 : Kernel) (space address result : ℕ) (owner : PageOwner) (byte
     apart_now = apart-page_written k1 result (overwritten (bank_page k1 result) (address % 4096) bytes)
         (found_owned (forest_of k1) space (address / 4096) (writable_mapping result) (owns.changes known trees).0.held.sound (owns.changes known trees).1.stays owns.own.mapped owns.own.real)
         ∙ owns.apart_now;
-    spelled_now = owns.spelled_now;
+    owners_now = owns.owners_now;
+    owned = pages_owned;
     inside = owns.inside;
     rest = rest_now;
     pages = bytes_there;
@@ -170,7 +199,8 @@ module _ (k0 k1 : Kernel) (space address result : ℕ) (owner : PageOwner) (byte
     copied = λ shared. (owns.copied shared).number;
     ways = owns.ways;
     most = owns.most;
+    none = owns.none;
   }
 
-  pub puts_piece : (new : Kernel) → new ≡ record k1 { bank = with_bank_page k1 result (overwritten (bank_page k1 result) (address % 4096) bytes) } → PutsPiece k0 new space address bytes
-  puts_piece new e = subst (λ k. PutsPiece k0 k space address bytes) (sym e) puts_here
+  pub puts_piece : (new : Kernel) → new ≡ record k1 { bank = with_bank_page k1 result (overwritten (bank_page k1 result) (address % 4096) bytes) } → PutsPiece k0 new space address bytes owner
+  puts_piece new e = subst (λ k. PutsPiece k0 k space address bytes owner) (sym e) puts_here

@@ -1,5 +1,5 @@
 -- Whether bytes may be written, page by page.
-use Rattle.std.proofs.Common.{◌≡◌, ◌<◌, ◌≤◌, ◌+◌, ◌-◌, ◌*◌, ◌/◌, ◌^◌, ℕ, zero, suc, true, false, Some, None, refl, sym, arith, ⊎_elim}
+use Rattle.std.proofs.Common.{◌≡◌, ◌<◌, ◌≤◌, ◌+◌, ◌-◌, ◌*◌, ◌/◌, ◌%◌, ◌^◌, ℕ, zero, suc, Bool, true, false, Some, None, refl, sym, arith, ⊎_elim}
 use Rattle.std.proofs.lemmas.Bool.{cases_lt}
 use Rattle.kernel_tables.specs.Kernel.{Kernel}
 use Rattle.unix_model.specs.Memory.{Memory, Page, all_writable, is_writable}
@@ -52,3 +52,11 @@ pub one_page_refused : (memory : Memory) (address count page : ℕ) → 0 < coun
 one_page_refused memory address count page some low high here =
     sym (all_writable-refused memory address (4096 * page - address) count (omega arith)
     (sym (here (address + (4096 * page - address)) (omega arith))))
+
+-- a range that lies in one page may be written where its page may
+pub in_one_page : (memory : Memory) (address count page : ℕ) (may : Bool) → 0 < count → address % 4096 + count ≤ 4096 → address / 4096 ≡ page
+    → ((a : ℕ) → a / 4096 ≡ page → may ≡ is_writable memory a)
+    → may ≡ all_writable memory address count
+in_one_page memory address count page true some within is here = each_writable memory address count (λ i below. sym (here (address + i) (omega arith)))
+in_one_page memory address count page false some within is here =
+    sym (all_writable-refused memory address 0 count some (sym (here (address + 0) (omega arith))))

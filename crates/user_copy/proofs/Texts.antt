@@ -1,10 +1,10 @@
 -- A text that is read byte by byte.
-use Rattle.std.proofs.Common.{◌≡◌, ◌≢◌, ◌<◌, ◌+◌, ◌-◌, ◌/◌, ◌%◌, ℕ, suc, Some, None, List, [], ◌∷◌, ◌++◌, drop, get_or, refl, ap, sym, ◌∙◌, arith, append_assoc, append-nil, add-zero}
+use Rattle.std.proofs.Common.{◌≡◌, ◌≢◌, ◌<◌, ◌+◌, ◌-◌, ◌/◌, ◌%◌, ℕ, suc, Some, None, List, [], ◌∷◌, ◌++◌, drop, get_or, refl, ap, sym, ◌∙◌, arith, append_assoc, append-nil, add-zero, add-one}
 use Rattle.std.specs.Prelude.{Result, Ok, Err}
 use Rattle.std.proofs.lemmas.Bool.{ne_eqb}
 use Rattle.std.proofs.lemmas.List.{get_or-drop, get_or-take}
 use Rattle.kn_base.specs.Rows.{part_at}
-use Rattle.unix_model.specs.Memory.{Memory, Page, byte_at}
+use Rattle.unix_model.specs.Memory.{Memory, Page, byte_at, bytes_at}
 use Rattle.unix_model.specs.Enter.{text_at}
 use Rattle.unix_model.specs.Refusals.{◌>>=◌}
 use Rattle.unix_model.specs.Tables.{at}
@@ -92,3 +92,13 @@ one_byte memory address page bytes e is =
 pub no_byte : (memory : Memory) (address : ℕ) → at memory (address / 4096) ≡ None → None ≡ byte_at memory address
 unfolding byte_at
 no_byte memory address e = rw e refl
+
+-- the bytes that were read so far: none, and one more
+pub held_none : (memory : Memory) (address : ℕ) (bytes : List ℕ) → bytes ≡ [] → bytes_at memory address 0 ≡ Some bytes
+unfolding bytes_at
+held_none memory address bytes none = ap (λ (all : List ℕ). Some all) (sym none)
+
+pub held_more : (memory : Memory) (address i byte : ℕ) (bytes : List ℕ) → bytes_at memory address i ≡ Some bytes → byte_at memory (address + i) ≡ Some byte
+    → bytes_at memory address (i + 1) ≡ Some (bytes ++ byte ∷ [])
+unfolding bytes_at
+held_more memory address i byte bytes before here = ap (bytes_at memory address) (add-one i) ∙ rw (before, here) refl

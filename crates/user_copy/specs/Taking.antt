@@ -16,3 +16,9 @@ abbrev pub text_told : Errno → Result (Unit {0}) CopyFault → List ℕ → Re
 text_told too_long (Ok done) text = Ok text
 text_told too_long (Err BadAddress) text = Err Efault
 text_told too_long (Err TooLong) text = Err too_long
+
+-- where the reading of a text stopped, after so many bytes: before its NUL, before a byte that isn't mapped, or after 256 bytes
+abbrev pub StopsText : Result (Unit {0}) CopyFault → ℕ → Option ℕ → Type 0
+StopsText (Ok done) count next = next ≡ Some 0
+StopsText (Err BadAddress) count next = next ≡ None
+StopsText (Err TooLong) count next = count ≡ 256

@@ -7,4 +7,4 @@ mod write;
 
 pub use fault::CopyFault;
 pub use read::{take_bytes, take_text};
-pub use write::{can_write, page_owner, put_bytes};
+pub use write::{can_write, page_owner, put_bytes, put_in_page};

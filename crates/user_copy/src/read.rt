@@ -1,6 +1,6 @@
 //! Reading bytes of a space.
 
-ghost use Rattle.std.specs.Prelude.{◌≡◌, ℕ, ◌+◌, ◌-◌, ◌*◌, ◌/◌, ◌%◌, ◌<◌, ◌≤◌, ◌^◌, List, [], length};
+ghost use Rattle.std.specs.Prelude.{◌≡◌, ℕ, ◌+◌, ◌-◌, ◌*◌, ◌/◌, ◌%◌, ◌<◌, ◌≤◌, ◌^◌, Some, List, [], length};
 ghost use Rattle.kn_base.specs.Memory.{Memory};
 ghost use Rattle.kernel_tables.specs.Kernel.{Kernel, kernel_of, Sized, IsSized};
 ghost use Rattle.space_bank.specs.Bank.{BankGood};
@@ -13,7 +13,7 @@ ghost use Rattle.forest.specs.Forest.{IsSpace};
 ghost use Rattle.kernel_forest.specs.Trees.{forest_of, TreesGood};
 ghost use Rattle.seg_tree.specs.Promises.{found_mapping};
 ghost use Rattle.user_copy.specs.SpaceMemory.{space_memory};
-ghost use Rattle.user_copy.specs.Taking.{Takes, text_told};
+ghost use Rattle.user_copy.specs.Taking.{Takes, text_told, StopsText};
 
 use super::fault::CopyFault;
 use arrayvec::ArrayVec;
@@ -118,8 +118,8 @@ fn take_byte<T: Store>(store: &T, space: Space, at: u64) -> Option<u8>
 }
 
 /// Reads the text from an address on up to its NUL, which is left off. Its bytes are looked at in order: BadAddress comes
-/// exactly where one of them isn't mapped, TooLong exactly where 256 came without a NUL, and `into` then holds those that
-/// came before.
+/// exactly where one of them isn't mapped, and `into` then holds those before it; TooLong exactly where 256 came without a NUL,
+/// and `into` then holds these.
 pub fn take_text<T: Store>(
     store: &T,
     space: Space,
@@ -130,6 +130,8 @@ pub fn take_text<T: Store>(
     requires trees { (outside : Outside) × TreesGood (kernel_of (T.memory store.now)) outside [] }
     requires space { IsSpace (forest_of (kernel_of (T.memory store.now))) [] space.0.0 }
     ensures taken { (too_long : Errno) → text_at (space_memory (kernel_of (T.memory store.now)) space.0.0) too_long 256 at ≡ text_told too_long result into.new.items }
+    ensures held { bytes_at (space_memory (kernel_of (T.memory store.now)) space.0.0) at (length into.new.items) ≡ Some into.new.items }
+    ensures stopped { StopsText result (length into.new.items) (byte_at (space_memory (kernel_of (T.memory store.now)) space.0.0) (at + length into.new.items)) }
 {
     into.clear();
     for i in 0..256u32 {

@@ -1,6 +1,6 @@
 //! Writing bytes of a space.
 
-ghost use Rattle.std.specs.Prelude.{◌≡◌, ℕ, ◌+◌, ◌-◌, ◌*◌, ◌/◌, ◌%◌, ◌<◌, ◌≤◌, ◌^◌, IsSome, Some, true, List, [], length};
+ghost use Rattle.std.specs.Prelude.{◌≡◌, ℕ, ◌+◌, ◌-◌, ◌*◌, ◌/◌, ◌%◌, ◌<◌, ◌≤◌, ◌^◌, Some, true, List, [], length};
 ghost use Rattle.kn_base.specs.Memory.{Memory, zero_page};
 ghost use Rattle.kernel_tables.specs.Kernel.{Kernel, kernel_of, Sized, IsSized};
 ghost use Rattle.space_bank.specs.Bank.{BankGood};
@@ -14,7 +14,7 @@ ghost use Rattle.kernel_forest.specs.Trees.{forest_of, node_tree, page_tree, Tre
 ghost use Rattle.seg_tree.specs.Promises.{found_mapping};
 ghost use Rattle.user_copy.specs.SpaceMemory.{space_memory};
 ghost use Rattle.seg_tree.specs.Blocks.{ChangesAtMost};
-ghost use Rattle.user_copy.specs.Writing.{PutsPiece, PutsBytes, NotOwn, pages_touched};
+ghost use Rattle.user_copy.specs.Writing.{PutsPiece, PutsBytes, NotOwn, pages_touched, pages_for, owner_for};
 
 use super::read::mapped_at;
 use kernel_tables::{Entry, NodeOwner, PageOwner, node_entry};
@@ -62,6 +62,9 @@ pub fn can_write<T: Store>(store: &T, space: Space, at: u32, count: u32) -> bool
     if count == 0 {
         return true;
     }
+    if count <= 4096 - at % 4096 {
+        return is_writable(store, space, at / 4096);
+    }
     if at as u64 + count as u64 > 0x8000_0000 {
         return false;
     }
@@ -70,7 +73,7 @@ pub fn can_write<T: Store>(store: &T, space: Space, at: u32, count: u32) -> bool
 
 // The owner of pages in a tree of an owner.
 fn tree_pages(owner: NodeOwner) -> PageOwner
-    ensures { IsSome (node_tree owner) → page_tree result ≡ node_tree owner }
+    ensures { result ≡ pages_for (node_tree owner) }
 {
     match owner {
         NodeOwner::FileTree => PageOwner::File,
@@ -78,11 +81,12 @@ fn tree_pages(owner: NodeOwner) -> PageOwner
     }
 }
 
-/// The owner of the pages that are taken for a space: of memory, or of a file.
+/// The owner of the pages that are taken for a space: of memory where it is a process's, else of a file.
 pub fn page_owner<T: Store>(store: &T, space: Space) -> PageOwner
     requires good { BankGood (kernel_of (T.memory store.now)) }
     requires space { IsSpace (forest_of (kernel_of (T.memory store.now))) [] space.0.0 }
-    ensures { page_tree result ≡ (forest_of (kernel_of (T.memory store.now))).owner (NodeObject space.0.0) }
+    ensures owner { result ≡ owner_for (kernel_of (T.memory store.now)) space.0.0 }
+    ensures tree { page_tree result ≡ (forest_of (kernel_of (T.memory store.now))).owner (NodeObject space.0.0) }
 {
     match node_entry(store, space.0) {
         Entry::Taken { owner, .. } => tree_pages(owner),
@@ -90,23 +94,25 @@ pub fn page_owner<T: Store>(store: &T, space: Space) -> PageOwner
     }
 }
 
-// Puts bytes that lie in one page.
-fn put_piece<T: Store>(store: &mut T, space: Space, at: u32, from: &[u8])
+/// Puts bytes that lie in one page of a space, which may be written there. A page that is taken for it is of this owner, whose
+/// pages the trees of the space's owner have. It takes at most four nodes, none where the way to the page is the space's own, and
+/// a page exactly where the page isn't own.
+pub fn put_in_page<T: Store>(store: &mut T, space: Space, at: u32, from: &[u8], owner: PageOwner)
     requires good { BankGood (kernel_of (T.memory store.old)) }
     requires trees { (outside : Outside) × TreesGood (kernel_of (T.memory store.old)) outside [] }
     requires space { IsSpace (forest_of (kernel_of (T.memory store.old))) [] space.0.0 }
+    requires owner { page_tree owner ≡ (forest_of (kernel_of (T.memory store.old))).owner (NodeObject space.0.0) }
     requires zero { (kernel_of (T.memory store.old)).page_zero ≡ zero_page }
     requires some { 1 ≤ length from.now }
     requires within { at % 4096 + length from.now ≤ 4096 }
     requires can_write { all_writable (space_memory (kernel_of (T.memory store.old)) space.0.0) at (length from.now) ≡ true }
     requires room { let old = kernel_of (T.memory store.old) in old.machine.nodes_taken + 19 ≤ old.nodes }
     requires page_room { let old = kernel_of (T.memory store.old) in (found : Mapping) → map_of (forest_of old).keys space.0.0 (at / 4096) ≡ Some found → (IsOwn (forest_of old) space.0.0 (at / 4096) found → ⊥) → old.machine.pages_taken < old.size }
-    ensures put { PutsPiece (kernel_of (T.memory store.old)) (kernel_of (T.memory store.new)) space.0.0 at from.now }
+    ensures put { PutsPiece (kernel_of (T.memory store.old)) (kernel_of (T.memory store.new)) space.0.0 at from.now owner }
     ensures good { BankGood (kernel_of (T.memory store.new)) }
     ensures blocks { ChangesAtMost (T.blocks store.old) (T.blocks store.new) 90 }
     ensures keeps { T.keeps store.old store.new }
 {
-    let owner = page_owner(store, space);
     match writable(store, space, at / 4096, owner) {
         Some(page) => write_page(store, page, (at % 4096) as u16, from),
         None => {}
@@ -114,7 +120,8 @@ fn put_piece<T: Store>(store: &mut T, space: Space, at: u32, from: &[u8])
 }
 
 /// Puts bytes that lie in at most two pages into a space, where all of the range may be written. It takes at most eight nodes,
-/// and as many pages as there are pages of the range that aren't own when they are come to in order.
+/// none where the ways to these pages are the space's own, and as many pages as there are pages of the range that aren't own when
+/// they are come to in order. Their owner is the one that `page_owner` tells.
 pub fn put_bytes<T: Store>(store: &mut T, space: Space, at: u32, from: &[u8])
     requires good { BankGood (kernel_of (T.memory store.old)) }
     requires trees { (outside : Outside) × TreesGood (kernel_of (T.memory store.old)) outside [] }
@@ -132,11 +139,18 @@ pub fn put_bytes<T: Store>(store: &mut T, space: Space, at: u32, from: &[u8])
     if from.is_empty() {
         return;
     }
+    let owner = page_owner(store, space);
     let in_first = 4096 - at % 4096;
     if from.len() <= in_first as usize {
-        put_piece(store, space, at, from);
+        put_in_page(store, space, at, from, owner);
     } else {
-        put_piece(store, space, at, &from[..in_first as usize]);
-        put_piece(store, space, at + in_first, &from[in_first as usize..]);
+        put_in_page(store, space, at, &from[..in_first as usize], owner);
+        put_in_page(
+            store,
+            space,
+            at + in_first,
+            &from[in_first as usize..],
+            owner,
+        );
     }
 }

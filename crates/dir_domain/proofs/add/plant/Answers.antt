@@ -26,6 +26,7 @@ put_piece-requires g c =
       low = omega arith;
       some = omega (arith, c.told-bytes);
       within = omega (arith, c.told-bytes);
+      owner = sym adds.owned;
       room = omega arith;
       page_room = λ own. let free = c.requires.pages in omega arith;
     }

@@ -1,15 +1,21 @@
-use Rattle.std.proofs.Common.{◌≡◌, subst, ◌*◌, ◌/◌, arith}
+use Rattle.std.proofs.Common.{◌≡◌, sym, subst, ◌*◌, ◌/◌, arith}
 use Rattle.forest.specs.Calls.{IsOwn}
 use Rattle.kernel_forest.specs.Trees.{forest_of}
 use Rattle.kernel_tables.specs.Kernel.{kernel_of}
 use Rattle.kernel_machine.proofs.OwnerLaws.{store_is_whole}
 use Rattle.dir_domain.proofs.Changing.{place-written}
+use Rattle.dir_domain.proofs.Seen.{tree-of-file}
 use Rattle.dir_domain.proofs.write.write_place.Goals as goal
 
 pub put_piece-requires-clause-page_room : goal.put_piece-requires-clause-page_room
 put_piece-requires-clause-page_room g c = λ own.
     let same : c.args.number / 128 ≡ 32 * c.args.number / 4096 = omega arith in
     c.requires.pages (λ found is. own found (subst (λ page. IsOwn (forest_of (kernel_of (g.T.Store.memory c.args.store.now))) c.args.row.now.root page found) same is))
+
+pub put_piece-requires-clause-owner : goal.put_piece-requires-clause-owner
+put_piece-requires-clause-owner g c =
+    let old = kernel_of (g.T.Store.memory c.args.store.now) in
+    sym (tree-of-file old c.requires.row.0 c.args.row.now c.requires.standing c.requires.row.1 c.requires.tree)
 
 pub returns-clause-changed : goal.returns-clause-changed
 returns-clause-changed g c = λ dir is.

@@ -5,7 +5,7 @@ use Rattle.kernel_forest.specs.Trees.{forest_of}
 use Rattle.kernel_machine.proofs.OwnerLaws.{store_is_whole}
 use Rattle.file_trees.proofs.Accounting.{nodes_left}
 use Rattle.file_domain.proofs.Puts.{page_left, may_write}
-use Rattle.file_domain.proofs.Seen.{file_tree, file_row}
+use Rattle.file_domain.proofs.Seen.{file_tree, file_root, file_row}
 use Rattle.file_domain.proofs.TreeCuts.{clear_changes, clear_nothing}
 use Rattle.file_domain.proofs.cutting.clear_rest.Goals as goal
 
@@ -30,6 +30,11 @@ clear_piece-requires-clause-low g c =
     let most = row.length in
     let order = c.requires.order in
     omega arith
+
+pub clear_piece-requires-clause-owner : goal.clear_piece-requires-clause-owner
+clear_piece-requires-clause-owner g c =
+    let old = kernel_of (g.T.Store.memory c.args.store.now) in
+    sym (file_root old c.args.file c.args.inode c.requires.good.standing c.requires.file c.requires.root).1
 
 pub clear_piece-requires-clause-room : goal.clear_piece-requires-clause-room
 clear_piece-requires-clause-room g c = let left = nodes_left (kernel_of (g.T.Store.memory c.args.store.now)) c.requires.good in omega arith

@@ -1,8 +1,8 @@
-use Rattle.std.proofs.Common.{◌/◌, ap, arith}
+use Rattle.std.proofs.Common.{◌/◌, ap, sym, arith}
 use Rattle.kernel_tables.specs.Kernel.{Kernel, kernel_of}
 use Rattle.kernel_tables.proofs.Sizes.{length-inodes}
 use Rattle.kernel_machine.proofs.OwnerLaws.{store_is_whole}
-use Rattle.file_domain.proofs.First.{is1, puts_first_by}
+use Rattle.file_domain.proofs.First.{is1, owner1, puts_first_by}
 use Rattle.file_trees.proofs.Accounting.{nodes_left}
 use Rattle.file_domain.proofs.Puts.{page_left}
 use Rattle.file_domain.proofs.Seen.{file_row, rooted_row}
@@ -22,6 +22,12 @@ put_piece-requires-clause-low g c =
     let most = row.length in
     let within = c.requires.within in
     omega arith
+
+pub put_piece-requires-clause-owner : goal.put_piece-requires-clause-owner
+put_piece-requires-clause-owner g c =
+    let old = kernel_of (g.T.Store.memory c.args.store.now) in
+    let mid = kernel_of (g.T.Store.memory c.new_space-tree.new.store) in
+    sym (owner1 old mid c.args.file c.new_space-tree.result.0.0 c.args.inode c.requires.good c.requires.file c.requires.root c.new_space-tree.ensures.added c.new_space-tree.ensures.good)
 
 pub put_piece-requires-clause-room : goal.put_piece-requires-clause-room
 put_piece-requires-clause-room g c =

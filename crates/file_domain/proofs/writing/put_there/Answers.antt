@@ -1,11 +1,11 @@
-use Rattle.std.proofs.Common.{◌/◌, arith}
+use Rattle.std.proofs.Common.{◌/◌, sym, arith}
 use Rattle.kernel_tables.specs.Kernel.{kernel_of}
 use Rattle.kernel_tables.proofs.Sizes.{length-memory_page}
 use Rattle.kernel_machine.proofs.OwnerLaws.{store_is_whole}
 use Rattle.file_trees.proofs.Pages.{tree_whole}
 use Rattle.file_trees.proofs.Accounting.{nodes_left}
 use Rattle.file_domain.proofs.Puts.{page_left, may_write, puts_at}
-use Rattle.file_domain.proofs.Seen.{file_tree, file_row}
+use Rattle.file_domain.proofs.Seen.{file_tree, file_root, file_row}
 use Rattle.file_domain.proofs.writing.put_there.Goals as goal
 
 pub put_piece-requires-clause-good : goal.put_piece-requires-clause-good
@@ -29,6 +29,11 @@ put_piece-requires-clause-low g c =
     let most = row.length in
     let within = c.requires.within in
     omega arith
+
+pub put_piece-requires-clause-owner : goal.put_piece-requires-clause-owner
+put_piece-requires-clause-owner g c =
+    let old = kernel_of (g.T.Store.memory c.args.store.now) in
+    sym (file_root old c.args.file c.args.inode c.requires.good.standing c.requires.file c.requires.root).1
 
 pub put_piece-requires-clause-room : goal.put_piece-requires-clause-room
 put_piece-requires-clause-room g c = let left = nodes_left (kernel_of (g.T.Store.memory c.args.store.now)) c.requires.good in omega arith

@@ -9,36 +9,36 @@ use Rattle.seg_tree.proofs.writing.take_copy.Goals as goal
 pub copy_page-requires-clause-from : goal.copy_page-requires-clause-from
 copy_page-requires-clause-from g c =
     let to = some_owner (page_tree c.args.owner) c.requires.tree in
-    copy_from (kernel_of (g.T.Store.memory c.args.store.now)) (kernel_of (g.T.Store.memory c.take_tree_page-fresh.new.store)) c.args.found.0 c.take_tree_page-fresh.result.0 to.0
+    copy_from (kernel_of (g.T.Store.memory c.args.store.now)) (kernel_of (g.T.Store.memory c.take_tree_page-fresh.new.store)) c.args.found.0 c.take_tree_page-fresh.result.0 c.args.owner to.0
     c.requires.good c.if-found-ne0.true (c.requires.owned c.if-found-ne0.true) (c.take_tree_page-fresh.ensures.taken to.0 to.1)
 
 pub copy_page-requires-clause-to : goal.copy_page-requires-clause-to
 copy_page-requires-clause-to g c =
     let to = some_owner (page_tree c.args.owner) c.requires.tree in
-    copy_to (kernel_of (g.T.Store.memory c.args.store.now)) (kernel_of (g.T.Store.memory c.take_tree_page-fresh.new.store)) c.args.found.0 c.take_tree_page-fresh.result.0 to.0
+    copy_to (kernel_of (g.T.Store.memory c.args.store.now)) (kernel_of (g.T.Store.memory c.take_tree_page-fresh.new.store)) c.args.found.0 c.take_tree_page-fresh.result.0 c.args.owner to.0
     c.requires.good c.if-found-ne0.true (c.requires.owned c.if-found-ne0.true) (c.take_tree_page-fresh.ensures.taken to.0 to.1)
 
 pub copy_page-requires-clause-used : goal.copy_page-requires-clause-used
 copy_page-requires-clause-used g c =
     let to = some_owner (page_tree c.args.owner) c.requires.tree in
-    copy_used (kernel_of (g.T.Store.memory c.args.store.now)) (kernel_of (g.T.Store.memory c.take_tree_page-fresh.new.store)) c.args.found.0 c.take_tree_page-fresh.result.0 to.0
+    copy_used (kernel_of (g.T.Store.memory c.args.store.now)) (kernel_of (g.T.Store.memory c.take_tree_page-fresh.new.store)) c.args.found.0 c.take_tree_page-fresh.result.0 c.args.owner to.0
     c.requires.good c.if-found-ne0.true (c.requires.owned c.if-found-ne0.true) (c.take_tree_page-fresh.ensures.taken to.0 to.1) c.take_tree_page-fresh.ensures.good
 
 pub copy_page-requires-clause-two_pages : goal.copy_page-requires-clause-two_pages
 copy_page-requires-clause-two_pages g c =
     let to = some_owner (page_tree c.args.owner) c.requires.tree in
-    copy_apart (kernel_of (g.T.Store.memory c.args.store.now)) (kernel_of (g.T.Store.memory c.take_tree_page-fresh.new.store)) c.args.found.0 c.take_tree_page-fresh.result.0 to.0
+    copy_apart (kernel_of (g.T.Store.memory c.args.store.now)) (kernel_of (g.T.Store.memory c.take_tree_page-fresh.new.store)) c.args.found.0 c.take_tree_page-fresh.result.0 c.args.owner to.0
     c.requires.good c.if-found-ne0.true (c.requires.owned c.if-found-ne0.true) (c.take_tree_page-fresh.ensures.taken to.0 to.1)
 
 pub returns-then-found-ne0-clause-copied : goal.returns-then-found-ne0-clause-copied
 returns-then-found-ne0-clause-copied g c to tree =
-    copies_page (kernel_of (g.T.Store.memory c.args.store.now)) (kernel_of (g.T.Store.memory c.take_tree_page-fresh.new.store)) c.args.found.0 c.take_tree_page-fresh.result.0 to
+    copies_page (kernel_of (g.T.Store.memory c.args.store.now)) (kernel_of (g.T.Store.memory c.take_tree_page-fresh.new.store)) c.args.found.0 c.take_tree_page-fresh.result.0 c.args.owner to
     c.requires.good c.if-found-ne0.true (c.requires.owned c.if-found-ne0.true) (c.take_tree_page-fresh.ensures.taken to tree)
     (kernel_of (g.T.Store.memory c.copy_page.new.store)) c.take_tree_page-fresh.ensures.good c.copy_page.ensures.written
 
 pub returns-else-found-ne0-clause-copied : goal.returns-else-found-ne0-clause-copied
 returns-else-found-ne0-clause-copied g c to tree =
-    copies_zero (kernel_of (g.T.Store.memory c.args.store.now)) (kernel_of (g.T.Store.memory c.take_tree_page-fresh.new.store)) c.args.found.0 c.take_tree_page-fresh.result.0 to
+    copies_zero (kernel_of (g.T.Store.memory c.args.store.now)) (kernel_of (g.T.Store.memory c.take_tree_page-fresh.new.store)) c.args.found.0 c.take_tree_page-fresh.result.0 c.args.owner to
     c.if-found-ne0.false c.requires.zero (c.take_tree_page-fresh.ensures.taken to tree)
 
 pub returns-then-found-ne0-clause-blocks : goal.returns-then-found-ne0-clause-blocks

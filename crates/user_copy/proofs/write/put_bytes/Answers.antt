@@ -17,8 +17,8 @@ returns-then-is_empty-clause-put g c =
     nothing_put (kernel_of (g.T.Store.memory c.args.store.now)) c.args.space.0.0 c.args.at c.args.from.now
     (eqb-true (length c.args.from.now) 0 (sym c.is_empty.ensures ∙ c.if-is_empty.true))
 
-pub put_piece-requires-clause-page_room : goal.put_piece-requires-clause-page_room
-put_piece-requires-clause-page_room g c found mapped shared =
+pub put_in_page-requires-clause-page_room : goal.put_in_page-requires-clause-page_room
+put_in_page-requires-clause-page_room g c found mapped shared =
     let kernel = kernel_of (g.T.Store.memory c.args.store.now) in
     let some : length c.args.from.now ≢ 0 = eqb-false (length c.args.from.now) 0 (sym c.is_empty.ensures ∙ c.if-is_empty.false) in
     let short = c.if-from-in_first.true in
@@ -31,19 +31,19 @@ pub returns-then-from-in_first-clause-put : goal.returns-then-from-in_first-clau
 returns-then-from-in_first-clause-put g c =
     let some : length c.args.from.now ≢ 0 = eqb-false (length c.args.from.now) 0 (sym c.is_empty.ensures ∙ c.if-is_empty.false) in
     let short = c.if-from-in_first.true in
-    one_piece (kernel_of (g.T.Store.memory c.args.store.now)) (kernel_of (g.T.Store.memory c.put_piece.new.store)) c.args.space.0.0 c.args.at c.args.from.now
-    c.requires.space c.put_piece.ensures.put (omega arith) (omega arith)
+    one_piece (kernel_of (g.T.Store.memory c.args.store.now)) (kernel_of (g.T.Store.memory c.put_in_page.new.store)) c.args.space.0.0 c.args.at c.args.from.now
+    c.page_owner-owner.result c.page_owner-owner.ensures.owner c.requires.space c.put_in_page.ensures.put (omega arith) (omega arith)
 
-pub put_piece-requires-else-from-in_first-clause-can_write :
-    goal.put_piece-requires-else-from-in_first-clause-can_write
-put_piece-requires-else-from-in_first-clause-can_write g c =
+pub put_in_page-requires-else-from-in_first-clause-can_write :
+    goal.put_in_page-requires-else-from-in_first-clause-can_write
+put_in_page-requires-else-from-in_first-clause-can_write g c =
     let long = c.if-from-in_first.false in
     first_may (space_memory (kernel_of (g.T.Store.memory c.args.store.now)) c.args.space.0.0) c.args.at (length (take (4096 - c.args.at % 4096) c.args.from.now)) (length c.args.from.now)
     (let front = front_length c.args.from.now (4096 - c.args.at % 4096) (omega arith) in omega arith) c.requires.can_write
 
-pub put_piece-requires-else-from-in_first-clause-page_room :
-    goal.put_piece-requires-else-from-in_first-clause-page_room
-put_piece-requires-else-from-in_first-clause-page_room g c found mapped shared =
+pub put_in_page-requires-else-from-in_first-clause-page_room :
+    goal.put_in_page-requires-else-from-in_first-clause-page_room
+put_in_page-requires-else-from-in_first-clause-page_room g c found mapped shared =
     let kernel = kernel_of (g.T.Store.memory c.args.store.now) in
     let long = c.if-from-in_first.false in
     let few = c.requires.within in
@@ -63,26 +63,26 @@ overflow_add-at g c =
     let low : c.args.at / 4096 < 2 ^ 19 = may_low kernel c.args.space.0.0 c.args.at (byte_may (space_memory kernel c.args.space.0.0) c.args.at (length c.args.from.now) (omega arith) c.requires.can_write) in
     omega arith
 
-pub put_piece-requires-else-from-in_first-2-clause-can_write :
-    goal.put_piece-requires-else-from-in_first-2-clause-can_write
-put_piece-requires-else-from-in_first-2-clause-can_write g c =
+pub put_in_page-requires-else-from-in_first-2-clause-can_write :
+    goal.put_in_page-requires-else-from-in_first-2-clause-can_write
+put_in_page-requires-else-from-in_first-2-clause-can_write g c =
     let long = c.if-from-in_first.false in
     let few = c.requires.within in
     let front = front_length c.args.from.now (4096 - c.args.at % 4096) (omega arith) in
     let back = back_length c.args.from.now (4096 - c.args.at % 4096) (omega arith) in
-    second_may (kernel_of (g.T.Store.memory c.args.store.now)) (kernel_of (g.T.Store.memory c.put_piece-else-from-in_first.new.store)) c.args.space.0.0 c.args.at (c.args.at + (4096 - c.args.at % 4096))
+    second_may (kernel_of (g.T.Store.memory c.args.store.now)) (kernel_of (g.T.Store.memory c.put_in_page-else-from-in_first.new.store)) c.args.space.0.0 c.args.at (c.args.at + (4096 - c.args.at % 4096))
     (take (4096 - c.args.at % 4096) c.args.from.now) c.requires.good c.requires.trees.1.held.sound c.requires.space
     (record { whole = λ page which. length-memory_page (g.T.Store.memory c.args.store.now) page c.requires.good.sized which (g.met.T.Store.page_length c.args.store.now) })
-    (omega arith) (omega arith) c.put_piece-else-from-in_first.ensures.put
+    (omega arith) (omega arith) c.page_owner-owner.result c.put_in_page-else-from-in_first.ensures.put
     (length (take (length c.args.from.now - (4096 - c.args.at % 4096)) (drop (4096 - c.args.at % 4096) c.args.from.now))) (length c.args.from.now)
     (omega arith) (omega arith) c.requires.can_write
 
-pub put_piece-requires-else-from-in_first-2-clause-page_room :
-    goal.put_piece-requires-else-from-in_first-2-clause-page_room
-put_piece-requires-else-from-in_first-2-clause-page_room g c again e shared =
+pub put_in_page-requires-else-from-in_first-2-clause-page_room :
+    goal.put_in_page-requires-else-from-in_first-2-clause-page_room
+put_in_page-requires-else-from-in_first-2-clause-page_room g c again e shared =
     let kernel = kernel_of (g.T.Store.memory c.args.store.now) in
-    let mid = kernel_of (g.T.Store.memory c.put_piece-else-from-in_first.new.store) in
-    let put = c.put_piece-else-from-in_first.ensures.put in
+    let mid = kernel_of (g.T.Store.memory c.put_in_page-else-from-in_first.new.store) in
+    let put = c.put_in_page-else-from-in_first.ensures.put in
     let long = c.if-from-in_first.false in
     let few = c.requires.within in
     let next = may_found kernel c.args.space.0.0 (c.args.at + (4096 - c.args.at % 4096))
@@ -98,11 +98,17 @@ put_piece-requires-else-from-in_first-2-clause-page_room g c again e shared =
     (subst (λ p. map_of (forest_of mid).keys c.args.space.0.0 p ≡ Some again) page e)
     (λ own. shared (subst (λ p. IsOwn (forest_of mid) c.args.space.0.0 p again) (sym page) own)))
 
+pub put_in_page-requires-else-from-in_first-2-clause-owner :
+    goal.put_in_page-requires-else-from-in_first-2-clause-owner
+put_in_page-requires-else-from-in_first-2-clause-owner g c =
+    let put = c.put_in_page-else-from-in_first.ensures.put in
+    c.page_owner-owner.ensures.tree ∙ sym (put.owns.roots c.args.space.0.0 ((put.owns.spaces c.args.space.0.0).0 c.requires.space)).owner
+
 pub returns-else-from-in_first-clause-put : goal.returns-else-from-in_first-clause-put
 returns-else-from-in_first-clause-put g c =
     let old = kernel_of (g.T.Store.memory c.args.store.now) in
-    let mid = kernel_of (g.T.Store.memory c.put_piece-else-from-in_first.new.store) in
-    let new = kernel_of (g.T.Store.memory c.put_piece-else-from-in_first-2.new.store) in
+    let mid = kernel_of (g.T.Store.memory c.put_in_page-else-from-in_first.new.store) in
+    let new = kernel_of (g.T.Store.memory c.put_in_page-else-from-in_first-2.new.store) in
     let long = c.if-from-in_first.false in
     let few = c.requires.within in
     let front = front_length c.args.from.now (4096 - c.args.at % 4096) (omega arith) in
@@ -110,8 +116,8 @@ returns-else-from-in_first-clause-put g c =
     subst (PutsBytes old new c.args.space.0.0 c.args.at) (parts_are c.args.from.now (4096 - c.args.at % 4096) (omega arith))
     (two_pieces old mid new c.args.space.0.0 c.args.at (c.args.at + (4096 - c.args.at % 4096))
     (take (4096 - c.args.at % 4096) c.args.from.now) (take (length c.args.from.now - (4096 - c.args.at % 4096)) (drop (4096 - c.args.at % 4096) c.args.from.now))
-    c.requires.space (omega arith) (omega arith) (omega arith) (omega arith)
-    c.put_piece-else-from-in_first.ensures.put c.put_piece-else-from-in_first-2.ensures.put)
+    c.page_owner-owner.result c.page_owner-owner.ensures.owner c.requires.space (omega arith) (omega arith) (omega arith) (omega arith)
+    c.put_in_page-else-from-in_first.ensures.put c.put_in_page-else-from-in_first-2.ensures.put)
 
 pub returns-else-from-in_first-clause-blocks : goal.returns-else-from-in_first-clause-blocks
-returns-else-from-in_first-clause-blocks g c = more_at_most 180 (omega arith) c.put_piece-else-from-in_first.ensures.blocks c.put_piece-else-from-in_first-2.ensures.blocks
+returns-else-from-in_first-clause-blocks g c = more_at_most 180 (omega arith) c.put_in_page-else-from-in_first.ensures.blocks c.put_in_page-else-from-in_first-2.ensures.blocks

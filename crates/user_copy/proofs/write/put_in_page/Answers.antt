@@ -5,7 +5,7 @@ use Rattle.user_copy.specs.SpaceMemory.{space_memory}
 use Rattle.user_copy.proofs.Across.{may_low, may_found, byte_may}
 use Rattle.seg_tree.proofs.BlockCounts.{at_most, more_at_most, widen_most}
 use Rattle.user_copy.proofs.Pieces.{puts_piece}
-use Rattle.user_copy.proofs.write.put_piece.Goals as goal
+use Rattle.user_copy.proofs.write.put_in_page.Goals as goal
 
 pub writable-requires-clause-page : goal.writable-requires-clause-page
 writable-requires-clause-page g c =
@@ -19,7 +19,7 @@ pub returns-in-Some-clause-put : goal.returns-in-Some-clause-put
 returns-in-Some-clause-put g c =
     let old = kernel_of (g.T.Store.memory c.args.store.now) in
     let mid = kernel_of (g.T.Store.memory c.writable.new.store) in
-    puts_piece old mid c.args.space.0.0 c.args.at c.in-Some.page.0 c.page_owner-owner.result c.args.from.now c.requires.good c.writable.ensures.good
+    puts_piece old mid c.args.space.0.0 c.args.at c.in-Some.page.0 c.args.owner c.args.from.now c.requires.good c.writable.ensures.good
     (record { whole = λ page which. length-memory_page (g.T.Store.memory c.args.store.now) page c.requires.good.sized which (g.met.T.Store.page_length c.args.store.now) })
     c.requires.trees.0 c.requires.trees.1 c.requires.space c.in-Some.ensures.written c.requires.within
     (kernel_of (g.T.Store.memory c.write_page.new.store)) c.write_page.ensures.written
