@@ -1,7 +1,5 @@
 //! The limits of the format, one changed field at a time, and a file that a linker wrote.
 
-ghost use Rattle.std.specs.Prelude.{◌≤◌, length};
-
 use elf_read::{ElfFault, ElfPlan, Load, SliceBytes, read};
 
 /// A program of three instructions (`li a0, 7`, `li a7, 1`, `ecall`) with an empty second segment.
@@ -50,202 +48,145 @@ const LINKED: [u8; 444] = [
     0x00, 0x00, 0x00, 0x00, 0x01, 0x00, 0x00, 0x00, 0x00, 0x00, 0x00, 0x00,
 ];
 
-fn plan_of(bytes: &[u8]) -> Result<ElfPlan, ElfFault>
-    requires { length bytes.now ≤ 596 }
-{
-    read(&SliceBytes(bytes))
+/// Bytes that are changed in the program, by their places, and the first fault of what they make of it.
+const CASES: &[(&[(usize, u8)], Option<ElfFault>)] = &[
+    // The file header.
+    (&[(0, 0x7E)], Some(ElfFault::NotElf)),
+    (&[(3, 0x47), (4, 2)], Some(ElfFault::NotElf)),
+    (&[(4, 2)], Some(ElfFault::NotRv32)),
+    (&[(5, 2), (6, 0)], Some(ElfFault::NotRv32)),
+    (&[(18, 0xF2)], Some(ElfFault::NotRv32)),
+    (&[(19, 1)], Some(ElfFault::NotRv32)),
+    (&[(6, 0)], Some(ElfFault::BadHeader)),
+    (&[(6, 2), (16, 3)], Some(ElfFault::BadHeader)),
+    (&[(42, 40)], Some(ElfFault::BadHeader)),
+    (&[(43, 1)], Some(ElfFault::BadHeader)),
+    (&[(24, 2)], Some(ElfFault::BadHeader)),
+    (&[(24, 4)], None),
+    (&[(24, 0xFC), (25, 0xFF), (26, 0xFF), (27, 0xFF)], None),
+    // The kind of file and the table of headers.
+    (&[(16, 1)], Some(ElfFault::NotStatic)),
+    (&[(16, 3), (44, 65)], Some(ElfFault::NotStatic)),
+    (&[(44, 65)], Some(ElfFault::TooMany)),
+    (&[(45, 1)], Some(ElfFault::TooMany)),
+    (&[(44, 64)], Some(ElfFault::Short)),
+    (&[(44, 3)], Some(ElfFault::Short)),
+    (&[(44, 1)], None),
+    (&[(44, 0)], Some(ElfFault::BadSegment)),
+    (&[(28, 64)], Some(ElfFault::BadSegment)),
+    (&[(28, 65)], Some(ElfFault::Short)),
+    (&[(28, 128), (44, 0)], Some(ElfFault::BadSegment)),
+    (&[(28, 129), (44, 0)], Some(ElfFault::Short)),
+    (
+        &[(28, 0xF0), (29, 0xFF), (30, 0xFF), (31, 0xFF)],
+        Some(ElfFault::Short),
+    ),
+    (&[(7, 9), (8, 1), (20, 2), (36, 3), (40, 0)], None),
+    (&[(32, 0xFF), (33, 0xFF), (46, 40), (48, 9), (50, 8)], None),
+    (&[], None),
+    // The program headers.
+    (&[(52, 2)], Some(ElfFault::NotStatic)),
+    (&[(52, 3)], Some(ElfFault::NotStatic)),
+    (&[(84, 3)], Some(ElfFault::NotStatic)),
+    (&[(52, 0)], Some(ElfFault::BadSegment)),
+    (&[(52, 4)], Some(ElfFault::BadSegment)),
+    (&[(55, 1)], Some(ElfFault::BadSegment)),
+    (&[(84, 6), (104, 1)], None),
+    // An empty load is passed over, whatever else its header says.
+    (&[(72, 0)], Some(ElfFault::BadSegment)),
+    (&[(100, 9)], None),
+    (&[(91, 0xFF), (95, 0xFF)], None),
+    // A second load is tested as the first, and has no address of it.
+    (&[(104, 1)], None),
+    (&[(100, 9), (104, 1)], Some(ElfFault::BadSegment)),
+    (&[(92, 12), (93, 0), (104, 1)], None),
+    (&[(92, 11), (93, 0), (104, 1)], Some(ElfFault::BadSegment)),
+    (&[(92, 0xFF), (93, 0xFF), (94, 0), (104, 1)], None),
+    (
+        &[(92, 0xFF), (93, 0xFF), (94, 0), (104, 2)],
+        Some(ElfFault::BadSegment),
+    ),
+    // The first refused header is told.
+    (&[(68, 13), (84, 2)], Some(ElfFault::BadSegment)),
+    (&[(52, 2), (104, 1)], Some(ElfFault::NotStatic)),
+    // Bytes in the file: at most those in memory, and up to the file's end.
+    (&[(68, 13)], Some(ElfFault::BadSegment)),
+    (&[(72, 11)], Some(ElfFault::BadSegment)),
+    (&[(72, 13)], None),
+    (&[(68, 0)], None),
+    (&[(56, 0x75)], Some(ElfFault::BadSegment)),
+    (&[(56, 0x80), (68, 0)], None),
+    (&[(56, 0x81), (68, 0)], Some(ElfFault::BadSegment)),
+    (
+        &[(56, 0xF4), (57, 0xFF), (58, 0xFF), (59, 0xFF)],
+        Some(ElfFault::BadSegment),
+    ),
+    // Bytes in memory: up to 0x7FFE_0000.
+    (&[(60, 0xF4), (61, 0xFF), (62, 0xFD), (63, 0x7F)], None),
+    (
+        &[(60, 0xF5), (61, 0xFF), (62, 0xFD), (63, 0x7F)],
+        Some(ElfFault::BadSegment),
+    ),
+    (
+        &[(60, 0xF4), (61, 0xFF), (62, 0xFF), (63, 0xFF)],
+        Some(ElfFault::BadSegment),
+    ),
+    (&[(62, 0)], None),
+    (&[(72, 0), (74, 0xFD), (75, 0x7F)], None),
+    (
+        &[(72, 1), (74, 0xFD), (75, 0x7F)],
+        Some(ElfFault::BadSegment),
+    ),
+    (&[(64, 1), (76, 0xF7), (80, 3)], None),
+];
+
+/// The bytes 1 and 2 of p_memsz of a load at 0x10000, and the start of the break.
+const BREAKS: &[(u8, u8, u32)] = &[
+    (0xFF, 0x0F, 0x11000),
+    (0x00, 0x10, 0x11000),
+    (0x01, 0x10, 0x12000),
+];
+
+/// How many loads there are, and the fault.
+const COUNTS: &[(u8, Option<ElfFault>)] = &[
+    (0, Some(ElfFault::BadSegment)),
+    (1, None),
+    (2, None),
+    (16, None),
+    (17, Some(ElfFault::TooMany)),
+];
+
+/// The plan of a file. None here is longer than 596 bytes.
+fn plan_of(bytes: &[u8]) -> Result<ElfPlan, ElfFault> {
+    if bytes.len() <= 596 {
+        read(&SliceBytes(bytes))
+    } else {
+        Err(ElfFault::NotElf)
+    }
 }
 
-fn fault_of(bytes: &[u8]) -> Option<ElfFault>
-    requires { length bytes.now ≤ 596 }
-{
-    plan_of(bytes).err()
-}
-
-/// The fault of the program with some of its bytes changed.
-fn fault_with(changes: &[(usize, u8)]) -> Option<ElfFault> {
+/// The program with some of its bytes changed.
+fn changed(changes: &[(usize, u8)]) -> [u8; 128] {
     let mut file = PROGRAM;
     for (place, byte) in changes {
         if *place < 128 {
             file[*place] = *byte;
         }
     }
-    fault_of(&file)
+    file
 }
 
-#[test]
-fn the_file_header_is_tested_field_by_field(rt: HostRuntime) {
-    let cases: [(&[(usize, u8)], Option<ElfFault>); 13] = [
-        (&[(0, 0x7E)], Some(ElfFault::NotElf)),
-        (&[(3, 0x47), (4, 2)], Some(ElfFault::NotElf)),
-        (&[(4, 2)], Some(ElfFault::NotRv32)),
-        (&[(5, 2), (6, 0)], Some(ElfFault::NotRv32)),
-        (&[(18, 0xF2)], Some(ElfFault::NotRv32)),
-        (&[(19, 1)], Some(ElfFault::NotRv32)),
-        (&[(6, 0)], Some(ElfFault::BadHeader)),
-        (&[(6, 2), (16, 3)], Some(ElfFault::BadHeader)),
-        (&[(42, 40)], Some(ElfFault::BadHeader)),
-        (&[(43, 1)], Some(ElfFault::BadHeader)),
-        (&[(24, 2)], Some(ElfFault::BadHeader)),
-        (&[(24, 4)], None),
-        (&[(24, 0xFC), (25, 0xFF), (26, 0xFF), (27, 0xFF)], None),
-    ];
-    for (changes, want) in cases {
-        assert_eq!(rt; fault_with(changes), want, "with {changes:?}");
-    }
+/// Whether this is the fault of a file, or it has none.
+fn has_fault(file: &[u8], fault: Option<ElfFault>) -> bool {
+    plan_of(file).err() == fault
 }
 
-#[test]
-fn the_kind_of_file_and_the_table_of_headers_are_tested(rt: HostRuntime) {
-    let cases: [(&[(usize, u8)], Option<ElfFault>); 16] = [
-        (&[(16, 1)], Some(ElfFault::NotStatic)),
-        (&[(16, 3), (44, 65)], Some(ElfFault::NotStatic)),
-        (&[(44, 65)], Some(ElfFault::TooMany)),
-        (&[(45, 1)], Some(ElfFault::TooMany)),
-        (&[(44, 64)], Some(ElfFault::Short)),
-        (&[(44, 3)], Some(ElfFault::Short)),
-        (&[(44, 1)], None),
-        (&[(44, 0)], Some(ElfFault::BadSegment)),
-        (&[(28, 64)], Some(ElfFault::BadSegment)),
-        (&[(28, 65)], Some(ElfFault::Short)),
-        (&[(28, 128), (44, 0)], Some(ElfFault::BadSegment)),
-        (&[(28, 129), (44, 0)], Some(ElfFault::Short)),
-        (
-            &[(28, 0xF0), (29, 0xFF), (30, 0xFF), (31, 0xFF)],
-            Some(ElfFault::Short),
-        ),
-        (&[(7, 9), (8, 1), (20, 2), (36, 3), (40, 0)], None),
-        (&[(32, 0xFF), (33, 0xFF), (46, 40), (48, 9), (50, 8)], None),
-        (&[], None),
-    ];
-    for (changes, want) in cases {
-        assert_eq!(rt; fault_with(changes), want, "with {changes:?}");
-    }
-}
-
-#[test]
-fn the_program_headers_are_tested_in_order(rt: HostRuntime) {
-    let cases: [(&[(usize, u8)], Option<ElfFault>); 33] = [
-        (&[(52, 2)], Some(ElfFault::NotStatic)),
-        (&[(52, 3)], Some(ElfFault::NotStatic)),
-        (&[(84, 3)], Some(ElfFault::NotStatic)),
-        (&[(52, 0)], Some(ElfFault::BadSegment)),
-        (&[(52, 4)], Some(ElfFault::BadSegment)),
-        (&[(55, 1)], Some(ElfFault::BadSegment)),
-        (&[(84, 6), (104, 1)], None),
-        // An empty load is passed over, whatever else its header says.
-        (&[(72, 0)], Some(ElfFault::BadSegment)),
-        (&[(100, 9)], None),
-        (&[(91, 0xFF), (95, 0xFF)], None),
-        // A second load is tested as the first, and has no address of it.
-        (&[(104, 1)], None),
-        (&[(100, 9), (104, 1)], Some(ElfFault::BadSegment)),
-        (&[(92, 12), (93, 0), (104, 1)], None),
-        (&[(92, 11), (93, 0), (104, 1)], Some(ElfFault::BadSegment)),
-        (&[(92, 0xFF), (93, 0xFF), (94, 0), (104, 1)], None),
-        (
-            &[(92, 0xFF), (93, 0xFF), (94, 0), (104, 2)],
-            Some(ElfFault::BadSegment),
-        ),
-        // The first refused header is told.
-        (&[(68, 13), (84, 2)], Some(ElfFault::BadSegment)),
-        (&[(52, 2), (104, 1)], Some(ElfFault::NotStatic)),
-        // Bytes in the file: at most those in memory, and up to the file's end.
-        (&[(68, 13)], Some(ElfFault::BadSegment)),
-        (&[(72, 11)], Some(ElfFault::BadSegment)),
-        (&[(72, 13)], None),
-        (&[(68, 0)], None),
-        (&[(56, 0x75)], Some(ElfFault::BadSegment)),
-        (&[(56, 0x80), (68, 0)], None),
-        (&[(56, 0x81), (68, 0)], Some(ElfFault::BadSegment)),
-        (
-            &[(56, 0xF4), (57, 0xFF), (58, 0xFF), (59, 0xFF)],
-            Some(ElfFault::BadSegment),
-        ),
-        // Bytes in memory: up to 0x7FFE_0000.
-        (&[(60, 0xF4), (61, 0xFF), (62, 0xFD), (63, 0x7F)], None),
-        (
-            &[(60, 0xF5), (61, 0xFF), (62, 0xFD), (63, 0x7F)],
-            Some(ElfFault::BadSegment),
-        ),
-        (
-            &[(60, 0xF4), (61, 0xFF), (62, 0xFF), (63, 0xFF)],
-            Some(ElfFault::BadSegment),
-        ),
-        (&[(62, 0)], None),
-        (&[(72, 0), (74, 0xFD), (75, 0x7F)], None),
-        (
-            &[(72, 1), (74, 0xFD), (75, 0x7F)],
-            Some(ElfFault::BadSegment),
-        ),
-        (&[(64, 1), (76, 0xF7), (80, 3)], None),
-    ];
-    for (changes, want) in cases {
-        assert_eq!(rt; fault_with(changes), want, "with {changes:?}");
-    }
-}
-
-#[test]
-fn a_file_that_is_cut_is_refused(rt: HostRuntime) {
-    for length in 0..129 {
-        let want = match length {
-            0..=115 => Some(ElfFault::Short),
-            116..=127 => Some(ElfFault::BadSegment),
-            _ => None,
-        };
-        assert_eq!(rt; fault_of(&PROGRAM[..length]), want, "cut after {length}");
-    }
-}
-
-#[test]
-fn a_program_has_its_plan(rt: HostRuntime) {
-    let Ok(plan) = plan_of(&PROGRAM) else {
-        panic!(rt; "refused");
-    };
-    let load = Load {
-        at: 0x10000,
-        offset: 116,
-        file_bytes: 12,
-        memory_bytes: 12,
-        writable: false,
-    };
-    assert_eq!(rt; plan.entry, 0x10000);
-    assert_eq!(rt; plan.loads.as_slice(), [load].as_slice());
-    assert_eq!(rt; plan.break_start, 0x11000);
-}
-
-#[test]
-fn a_file_from_a_linker_has_its_plan(rt: HostRuntime) {
-    let Ok(plan) = plan_of(&LINKED) else {
-        panic!(rt; "refused");
-    };
-    let load = Load {
-        at: 0x10074,
-        offset: 0x74,
-        file_bytes: 0x18,
-        memory_bytes: 0x13A0,
-        writable: true,
-    };
-    assert_eq!(rt; plan.entry, 0x10074);
-    assert_eq!(rt; plan.loads.as_slice(), [load].as_slice());
-    assert_eq!(rt; plan.break_start, 0x12000);
-}
-
-#[test]
-fn the_break_starts_at_a_page(rt: HostRuntime) {
-    // The bytes 1 and 2 of p_memsz of a load at 0x10000, and the start of the break.
-    for (low, high, want) in [
-        (0xFF, 0x0F, 0x11000),
-        (0x00, 0x10, 0x11000),
-        (0x01, 0x10, 0x12000),
-    ] {
-        let mut file = PROGRAM;
-        file[72] = low;
-        file[73] = high;
-        let Ok(plan) = plan_of(&file) else {
-            panic!(rt; "refused");
-        };
-        assert_eq!(rt; plan.break_start, want);
+/// The fault of the program that ends after so many bytes.
+fn cut_fault(length: usize) -> Option<ElfFault> {
+    match length {
+        0..=115 => Some(ElfFault::Short),
+        116..=127 => Some(ElfFault::BadSegment),
+        _ => None,
     }
 }
 
@@ -265,19 +206,62 @@ fn loads_of(count: u8) -> [u8; 596] {
 }
 
 #[test]
-fn sixteen_loads_are_taken_and_no_more(rt: HostRuntime) {
-    for (count, want) in [
-        (0, Some(ElfFault::BadSegment)),
-        (1, None),
-        (2, None),
-        (16, None),
-        (17, Some(ElfFault::TooMany)),
-    ] {
-        assert_eq!(rt; fault_of(&loads_of(count)), want, "{count} loads");
+fn the_first_fault_is_told(rt: HostRuntime) {
+    for (number, (changes, fault)) in CASES.iter().enumerate() {
+        assert!(rt; has_fault(&changed(changes), *fault), "row {number}");
     }
-    let Ok(plan) = plan_of(&loads_of(16)) else {
-        panic!(rt; "refused");
+    for length in 0..129 {
+        assert!(rt;
+            has_fault(&PROGRAM[..length], cut_fault(length)),
+            "cut after {length}"
+        );
+    }
+    for (count, fault) in COUNTS {
+        assert!(rt; has_fault(&loads_of(*count), *fault), "{count} loads");
+    }
+}
+
+/// Whether the plan of a file has this entry, this start of the break and one load, and the load is this.
+fn has_plan(file: &[u8], entry: u32, load: Load, break_start: u32) -> bool {
+    match plan_of(file) {
+        Ok(plan) => {
+            plan.entry == entry
+                && plan.break_start == break_start
+                && plan.loads.as_slice() == [load].as_slice()
+        }
+        Err(_) => false,
+    }
+}
+
+/// How many loads the plan of a file has, and where its break starts.
+fn loads_and_break(file: &[u8]) -> Option<(usize, u32)> {
+    match plan_of(file) {
+        Ok(plan) => Some((plan.loads.len(), plan.break_start)),
+        Err(_) => None,
+    }
+}
+
+#[test]
+fn a_file_has_its_plan(rt: HostRuntime) {
+    let load = Load {
+        at: 0x10000,
+        offset: 116,
+        file_bytes: 12,
+        memory_bytes: 12,
+        writable: false,
     };
-    assert_eq!(rt; plan.loads.len(), 16);
-    assert_eq!(rt; plan.break_start, 0x20000);
+    assert!(rt; has_plan(&PROGRAM, 0x10000, load, 0x11000));
+    let load = Load {
+        at: 0x10074,
+        offset: 0x74,
+        file_bytes: 0x18,
+        memory_bytes: 0x13A0,
+        writable: true,
+    };
+    assert!(rt; has_plan(&LINKED, 0x10074, load, 0x12000));
+    for (low, high, start) in BREAKS {
+        let file = changed(&[(72, *low), (73, *high)]);
+        assert!(rt; loads_and_break(&file) == Some((1, *start)));
+    }
+    assert!(rt; loads_and_break(&loads_of(16)) == Some((16, 0x20000)));
 }

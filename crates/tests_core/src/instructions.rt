@@ -6,10 +6,9 @@
 //! bytes on.
 
 use rv_exec::{Access, Cause, Outcome, Regs, begin, end_load, end_store};
-use std::process::Abort;
 
 /// A word, a1, a2, and then a0.
-const REGISTER_OPERATIONS: [[u32; 4]; 54] = [
+const OPERATIONS: &[[u32; 4]] = &[
     // add
     [0x00C58533, 0x00000000, 0x00000000, 0x00000000],
     [0x00C58533, 0x00000001, 0xFFFFFFFF, 0x00000000],
@@ -74,10 +73,6 @@ const REGISTER_OPERATIONS: [[u32; 4]; 54] = [
     [0x00C5F533, 0xFFFFFFFF, 0xFFFFFFFF, 0xFFFFFFFF],
     [0x00C5F533, 0x80000000, 0x7FFFFFFF, 0x00000000],
     [0x00C5F533, 0x0F0F0F0F, 0x33333333, 0x03030303],
-];
-
-/// A word, a1, a2, and then a0.
-const OTHER_OPERATIONS: [[u32; 4]; 47] = [
     // addi
     [0x00058513, 0x00000000, 0x00000000, 0x00000000],
     [0xFFF58513, 0x00000001, 0x00000000, 0x00000000],
@@ -141,7 +136,7 @@ const OTHER_OPERATIONS: [[u32; 4]; 47] = [
 ];
 
 /// A word, a1, a2, and how far on the next instruction is.
-const BRANCHES: [[u32; 4]; 27] = [
+const BRANCHES: &[[u32; 4]] = &[
     // beq
     [0x00C58463, 0x00000000, 0x00000000, 8],
     [0x00C58463, 0x00000000, 0x00000001, 4],
@@ -178,7 +173,7 @@ const BRANCHES: [[u32; 4]; 27] = [
 ];
 
 /// A word, its address, a1, and then a0, a1 and the next address.
-const JUMPS: [[u32; 6]; 12] = [
+const JUMPS: &[[u32; 6]] = &[
     // auipc
     [
         0x00000517, 0x00011678, 0x00000000, 0x00011678, 0x00000000, 0x0001167C,
@@ -221,7 +216,7 @@ const JUMPS: [[u32; 6]; 12] = [
 ];
 
 /// The word of a load at a1 + 1, how many bytes it reads, the number that they spell, and then a0.
-const LOADS: [[u32; 4]; 26] = [
+const LOADS: &[[u32; 4]] = &[
     // lb
     [0x00158503, 1, 0x00000000, 0x00000000],
     [0x00158503, 1, 0x00000001, 0x00000001],
@@ -257,7 +252,7 @@ const LOADS: [[u32; 4]; 26] = [
 
 /// The word of a store at a1 - 3, a2, how many bytes it writes, and the number that four bytes there, 0 before, then
 /// spell.
-const STORES: [[u32; 4]; 15] = [
+const STORES: &[[u32; 4]] = &[
     // sb
     [0xFEC58EA3, 0x00000000, 1, 0x00000000],
     [0xFEC58EA3, 0x12345678, 1, 0x00000078],
@@ -278,154 +273,122 @@ const STORES: [[u32; 4]; 15] = [
     [0xFEC5AEA3, 0x00008000, 4, 0x00008000],
 ];
 
-/// Registers at an address, with a1 and a2.
-fn registers(pc: u32, a1: u32, a2: u32) -> Regs {
+/// A word that stops with a1 = 0x1_0009, or a branch that isn't taken there, its access and the next address.
+const STOPS: &[(u32, Access, u32)] = &[
+    // jal a0, . + 2, and jalr a0, 1(a1), which is to 0x1_000A
+    (0x0020_056F, MISALIGNED, 0x1_0000),
+    (0x0015_8567, MISALIGNED, 0x1_0000),
+    // beq zero, zero, . + 2 is taken, beq zero, a1, . + 2 isn't
+    (0x0000_0163, MISALIGNED, 0x1_0000),
+    (0x00B0_0163, NEXT, 0x1_0004),
+    // ecall, ebreak, and no instruction
+    (0x0000_0073, Access::Finished(Outcome::Call), 0x1_0000),
+    (0x0010_0073, Access::Finished(Outcome::Break), 0x1_0000),
+    (
+        0x0000_0000,
+        Access::Finished(Outcome::Fault(Cause::Illegal)),
+        0x1_0000,
+    ),
+];
+
+const NEXT: Access = Access::Finished(Outcome::Next);
+
+const MISALIGNED: Access = Access::Finished(Outcome::Fault(Cause::BadTarget));
+
+/// Registers at an address, with a0, a1 and a2.
+fn registers(pc: u32, [a0, a1, a2]: [u32; 3]) -> Regs {
     let mut regs = Regs { x: [0; 32], pc };
+    regs.x[10] = a0;
     regs.x[11] = a1;
     regs.x[12] = a2;
     regs
 }
 
-/// What a word does to registers.
-fn begun(mut regs: Regs, word: u32) -> (Access, Regs) {
-    let access = begin(&mut regs, word);
-    (access, regs)
+/// Whether a word does this to registers, with what a load reads: the access that it asks for, and the registers after it.
+/// Rows of all kinds are compared by this one function, so that the tests are proved quickly.
+fn does(word: u32, mut regs: Regs, read: u32, access: Access, after: Regs) -> bool {
+    let asked = begin(&mut regs, word);
+    match asked {
+        Access::Load { size: 1, .. } if read < 0x100 => end_load(&mut regs, word, read),
+        Access::Load { size: 2, .. } if read < 0x1_0000 => end_load(&mut regs, word, read),
+        Access::Load { size: 4, .. } => end_load(&mut regs, word, read),
+        Access::Store { .. } => end_store(&mut regs),
+        _ => {}
+    }
+    asked == access && regs == after
 }
 
-const NEXT: Access = Access::Finished(Outcome::Next);
-
-/// The registers after an operation.
-fn operated(a0: u32, a1: u32, a2: u32) -> Regs {
-    let mut regs = registers(0x1_0004, a1, a2);
-    regs.x[10] = a0;
-    regs
+/// An operation gives its result in a0, and changes no other register.
+fn operates([word, a1, a2, a0]: [u32; 4]) -> bool {
+    let before = registers(0x1_0000, [0, a1, a2]);
+    does(word, before, 0, NEXT, registers(0x1_0004, [a0, a1, a2]))
 }
 
-/// A word gives this result in a0, and changes no other register.
-fn check_operation(rt: &impl Abort, [word, a1, a2, a0]: [u32; 4]) {
-    let (access, regs) = begun(registers(0x1_0000, a1, a2), word);
-    assert_eq!(rt; access, NEXT, "{word:x}");
-    assert_eq!(rt; regs, operated(a0, a1, a2), "{word:x}");
+/// A branch changes no register.
+fn branches([word, a1, a2, next]: [u32; 4]) -> bool {
+    let before = registers(0x1_0000, [0, a1, a2]);
+    let pc = u32::wrapping_add(0x1_0000, next);
+    does(word, before, 0, NEXT, registers(pc, [0, a1, a2]))
+}
+
+/// A jump changes no other register.
+fn jumps([word, pc, a1, a0, new_a1, next]: [u32; 6]) -> bool {
+    let before = registers(pc, [0, a1, 0]);
+    does(word, before, 0, NEXT, registers(next, [a0, new_a1, 0]))
+}
+
+/// A load asks for its bytes.
+fn loads([word, size, number, a0]: [u32; 4]) -> bool {
+    let before = registers(0x1_0000, [0, 0x2_0008, 0]);
+    let access = Access::Load {
+        at: 0x2_0009,
+        size: size.min(4) as u8,
+    };
+    let after = registers(0x1_0004, [a0, 0x2_0008, 0]);
+    does(word, before, number, access, after)
+}
+
+/// A store changes no register.
+fn stores([word, a2, size, value]: [u32; 4]) -> bool {
+    let before = registers(0x1_0000, [0, 0x2_0008, a2]);
+    let access = Access::Store {
+        at: 0x2_0005,
+        size: size.min(4) as u8,
+        value,
+    };
+    does(
+        word,
+        before,
+        0,
+        access,
+        registers(0x1_0004, [0, 0x2_0008, a2]),
+    )
+}
+
+/// What stops changes nothing.
+fn stops(word: u32, access: Access, next: u32) -> bool {
+    let before = registers(0x1_0000, [0, 0x1_0009, 0]);
+    does(word, before, 0, access, registers(next, [0, 0x1_0009, 0]))
 }
 
 #[test]
-fn operations_of_registers_are_those_of_qemu(rt: HostRuntime) {
-    for row in REGISTER_OPERATIONS {
-        check_operation(&rt, row);
+fn instructions_are_those_of_qemu(rt: HostRuntime) {
+    for row in OPERATIONS {
+        assert!(rt; operates(*row), "{:x}", row[0]);
     }
-}
-
-#[test]
-fn other_operations_are_those_of_qemu(rt: HostRuntime) {
-    for row in OTHER_OPERATIONS {
-        check_operation(&rt, row);
+    for row in BRANCHES {
+        assert!(rt; branches(*row), "{:x}", row[0]);
     }
-}
-
-#[test]
-fn branches_are_those_of_qemu(rt: HostRuntime) {
-    for [word, a1, a2, next] in BRANCHES {
-        let (access, regs) = begun(registers(0x1_0000, a1, a2), word);
-        assert_eq!(rt; access, NEXT, "{word:x}");
-        assert_eq!(rt;
-            regs,
-            registers(u32::wrapping_add(0x1_0000, next), a1, a2),
-            "{word:x}"
-        );
+    for row in JUMPS {
+        assert!(rt; jumps(*row), "{:x}", row[0]);
     }
-}
-
-#[test]
-fn jumps_are_those_of_qemu(rt: HostRuntime) {
-    for [word, pc, a1, new_a0, new_a1, next] in JUMPS {
-        let (access, regs) = begun(registers(pc, a1, 0), word);
-        assert_eq!(rt; access, NEXT, "{word:x}");
-        assert_eq!(rt;
-            [regs.x[10], regs.x[11], regs.pc],
-            [new_a0, new_a1, next],
-            "{word:x}"
-        );
+    for row in LOADS {
+        assert!(rt; loads(*row), "{:x}", row[0]);
     }
-}
-
-/// Begins a load and ends it with a number: the address and the size that it asked for, or None for another access.
-fn load(regs: &mut Regs, word: u32, number: u32) -> Option<(u32, u32)> {
-    match begin(regs, word) {
-        Access::Load { at, size: 1 } if number < 0x100 => {
-            end_load(regs, word, number);
-            Some((at, 1))
-        }
-        Access::Load { at, size: 2 } if number < 0x1_0000 => {
-            end_load(regs, word, number);
-            Some((at, 2))
-        }
-        Access::Load { at, size: 4 } => {
-            end_load(regs, word, number);
-            Some((at, 4))
-        }
-        _ => None,
+    for row in STORES {
+        assert!(rt; stores(*row), "{:x}", row[0]);
     }
-}
-
-#[test]
-fn loads_are_those_of_qemu(rt: HostRuntime) {
-    for [word, size, number, result] in LOADS {
-        let mut regs = registers(0x1_0000, 0x2_0008, 0);
-        assert_eq!(rt;
-            load(&mut regs, word, number),
-            Some((0x2_0009, size)),
-            "{word:x}"
-        );
-        assert_eq!(rt; [regs.x[10], regs.pc], [result, 0x1_0004], "{word:x}");
+    for (word, access, next) in STOPS {
+        assert!(rt; stops(*word, *access, *next), "{word:x}");
     }
-}
-
-/// Begins a store and ends it: the address, the size and the number, or None for another access.
-fn store(regs: &mut Regs, word: u32) -> Option<(u32, u32, u32)> {
-    match begin(regs, word) {
-        Access::Store { at, size, value } => {
-            end_store(regs);
-            Some((at, u32::from(size), value))
-        }
-        _ => None,
-    }
-}
-
-#[test]
-fn stores_are_those_of_qemu(rt: HostRuntime) {
-    for [word, a2, size, stored] in STORES {
-        let mut regs = registers(0x1_0000, 0x2_0008, a2);
-        assert_eq!(rt;
-            store(&mut regs, word),
-            Some((0x2_0005, size, stored)),
-            "{word:x}"
-        );
-        assert_eq!(rt; regs, registers(0x1_0004, 0x2_0008, a2), "{word:x}");
-    }
-}
-
-#[test]
-fn what_stops_changes_nothing(rt: HostRuntime) {
-    let regs = registers(0x1_0000, 0x1_0009, 0);
-    let misaligned = Access::Finished(Outcome::Fault(Cause::BadTarget));
-    // jal a0, . + 2, and jalr a0, 1(a1), which is to 0x1_000A
-    assert_eq!(rt; begun(regs, 0x0020_056F), (misaligned, regs));
-    assert_eq!(rt; begun(regs, 0x0015_8567), (misaligned, regs));
-    // beq zero, zero, . + 2 is taken, beq zero, a1, . + 2 isn't
-    assert_eq!(rt; begun(regs, 0x0000_0163), (misaligned, regs));
-    assert_eq!(rt;
-        begun(regs, 0x00B0_0163),
-        (NEXT, registers(0x1_0004, 0x1_0009, 0))
-    );
-    // ecall, ebreak, and no instruction
-    assert_eq!(rt;
-        begun(regs, 0x0000_0073),
-        (Access::Finished(Outcome::Call), regs)
-    );
-    assert_eq!(rt;
-        begun(regs, 0x0010_0073),
-        (Access::Finished(Outcome::Break), regs)
-    );
-    let illegal = Access::Finished(Outcome::Fault(Cause::Illegal));
-    assert_eq!(rt; begun(regs, 0x0000_0000), (illegal, regs));
 }

@@ -5,182 +5,185 @@
 //! `sw x10, 4(x2)` and so on). The words outside are statements of other extensions, assembled with
 //! `-march=rv32imaf_zicsr_zifencei`, and `.insn` statements with a changed field.
 
+use rv_decode::BranchOp::{Beq, Bge, Bgeu, Blt, Bltu, Bne};
+use rv_decode::ImmOp::{Addi, Andi, Ori, Slli, Slti, Sltiu, Srai, Srli, Xori};
+use rv_decode::LoadOp::{Lb, Lbu, Lh, Lhu, Lw};
+use rv_decode::RegOp::{Add, And, Or, Sll, Slt, Sltu, Sra, Srl, Sub, Xor};
+use rv_decode::StoreOp::{Sb, Sh, Sw};
 use rv_decode::{BranchOp, ImmOp, Instr, LoadOp, RegOp, StoreOp, decode, encode, fits};
-use std::process::Abort;
 
-/// Word, rd, imm.
-const LUI: [(u32, u8, u32); 5] = [
-    (0x1234_50B7, 1, 0x1234_5000),
-    (0x0000_0037, 0, 0x0000_0000),
-    (0xFFFF_FFB7, 31, 0xFFFF_F000),
-    (0x8000_08B7, 17, 0x8000_0000),
-    (0x0000_1537, 10, 0x0000_1000),
-];
+/// An instruction, so written that it fits into a row of a table.
+#[derive(Clone, Copy)]
+enum Row {
+    /// rd, imm.
+    Lui(u8, u32),
+    /// rd, imm.
+    Auipc(u8, u32),
+    /// rd, imm.
+    Jal(u8, i32),
+    /// rd, rs1, imm.
+    Jalr(u8, u8, i32),
+    /// op, rs1, rs2, imm.
+    Branch(BranchOp, u8, u8, i32),
+    /// op, rd, rs1, imm.
+    Load(LoadOp, u8, u8, i32),
+    /// op, rs1, rs2, imm.
+    Store(StoreOp, u8, u8, i32),
+    /// op, rd, rs1, imm.
+    OpImm(ImmOp, u8, u8, i32),
+    /// op, rd, rs1, rs2.
+    Op(RegOp, u8, u8, u8),
+    Fence,
+    Ecall,
+    Ebreak,
+}
 
-/// Word, rd, imm.
-const AUIPC: [(u32, u8, u32); 5] = [
-    (0x1234_5097, 1, 0x1234_5000),
-    (0x0000_0017, 0, 0x0000_0000),
-    (0xFFFF_FF97, 31, 0xFFFF_F000),
-    (0x8000_0897, 17, 0x8000_0000),
-    (0x0000_1517, 10, 0x0000_1000),
-];
+use Row::{Auipc, Branch, Ebreak, Ecall, Fence, Jal, Jalr, Load, Lui, Op, OpImm, Store};
 
-/// Word, rd, imm.
-const JAL: [(u32, u8, i32); 7] = [
-    (0x0080_00EF, 1, 8),
-    (0x8000_006F, 0, -1048576),
-    (0x7FFF_FFEF, 31, 1048574),
-    (0xFFFF_F2EF, 5, -2),
-    (0x0010_056F, 10, 2048),
-    (0x0000_14EF, 9, 4096),
-    (0x8008_066F, 12, -524288),
-];
-
-/// Word, rd, rs1, imm.
-const JALR: [(u32, u8, u8, i32); 5] = [
-    (0x0001_00E7, 1, 2, 0),
-    (0x0000_8067, 0, 1, 0),
-    (0x7FFF_0FE7, 31, 30, 2047),
-    (0x8003_02E7, 5, 6, -2048),
-    (0xFFF3_83E7, 7, 7, -1),
-];
-
-/// Word, op, rs1, rs2, imm.
-const BRANCHES: [(u32, BranchOp, u8, u8, i32); 22] = [
-    (0x0020_8863, BranchOp::Beq, 1, 2, 16),
-    (0x800F_8063, BranchOp::Beq, 31, 0, -4096),
-    (0x7FF0_0FE3, BranchOp::Beq, 0, 31, 4094),
-    (0x0020_9863, BranchOp::Bne, 1, 2, 16),
-    (0x800F_9063, BranchOp::Bne, 31, 0, -4096),
-    (0x7FF0_1FE3, BranchOp::Bne, 0, 31, 4094),
-    (0x0020_C863, BranchOp::Blt, 1, 2, 16),
-    (0x800F_C063, BranchOp::Blt, 31, 0, -4096),
-    (0x7FF0_4FE3, BranchOp::Blt, 0, 31, 4094),
-    (0x0020_D863, BranchOp::Bge, 1, 2, 16),
-    (0x800F_D063, BranchOp::Bge, 31, 0, -4096),
-    (0x7FF0_5FE3, BranchOp::Bge, 0, 31, 4094),
-    (0x0020_E863, BranchOp::Bltu, 1, 2, 16),
-    (0x800F_E063, BranchOp::Bltu, 31, 0, -4096),
-    (0x7FF0_6FE3, BranchOp::Bltu, 0, 31, 4094),
-    (0x0020_F863, BranchOp::Bgeu, 1, 2, 16),
-    (0x800F_F063, BranchOp::Bgeu, 31, 0, -4096),
-    (0x7FF0_7FE3, BranchOp::Bgeu, 0, 31, 4094),
-    (0xFE41_8FE3, BranchOp::Beq, 3, 4, -2),
-    (0x0062_90E3, BranchOp::Bne, 5, 6, 2048),
-    (0x4083_C063, BranchOp::Blt, 7, 8, 1024),
-    (0x00A4_DF63, BranchOp::Bge, 9, 10, 30),
-];
-
-/// Word, op, rd, rs1, imm.
-const LOADS: [(u32, LoadOp, u8, u8, i32); 15] = [
-    (0x0041_0503, LoadOp::Lb, 10, 2, 4),
-    (0x8000_0F83, LoadOp::Lb, 31, 0, -2048),
-    (0x7FFF_8003, LoadOp::Lb, 0, 31, 2047),
-    (0x0041_1503, LoadOp::Lh, 10, 2, 4),
-    (0x8000_1F83, LoadOp::Lh, 31, 0, -2048),
-    (0x7FFF_9003, LoadOp::Lh, 0, 31, 2047),
-    (0x0041_2503, LoadOp::Lw, 10, 2, 4),
-    (0x8000_2F83, LoadOp::Lw, 31, 0, -2048),
-    (0x7FFF_A003, LoadOp::Lw, 0, 31, 2047),
-    (0x0041_4503, LoadOp::Lbu, 10, 2, 4),
-    (0x8000_4F83, LoadOp::Lbu, 31, 0, -2048),
-    (0x7FFF_C003, LoadOp::Lbu, 0, 31, 2047),
-    (0x0041_5503, LoadOp::Lhu, 10, 2, 4),
-    (0x8000_5F83, LoadOp::Lhu, 31, 0, -2048),
-    (0x7FFF_D003, LoadOp::Lhu, 0, 31, 2047),
-];
-
-/// Word, op, rs1, rs2, imm.
-const STORES: [(u32, StoreOp, u8, u8, i32); 18] = [
-    (0x00A1_0223, StoreOp::Sb, 2, 10, 4),
-    (0x800F_8023, StoreOp::Sb, 31, 0, -2048),
-    (0x7FF0_0FA3, StoreOp::Sb, 0, 31, 2047),
-    (0xFE62_8FA3, StoreOp::Sb, 5, 6, -1),
-    (0x0083_8FA3, StoreOp::Sb, 7, 8, 31),
-    (0x02B4_8023, StoreOp::Sb, 9, 11, 32),
-    (0x00A1_1223, StoreOp::Sh, 2, 10, 4),
-    (0x800F_9023, StoreOp::Sh, 31, 0, -2048),
-    (0x7FF0_1FA3, StoreOp::Sh, 0, 31, 2047),
-    (0xFE62_9FA3, StoreOp::Sh, 5, 6, -1),
-    (0x0083_9FA3, StoreOp::Sh, 7, 8, 31),
-    (0x02B4_9023, StoreOp::Sh, 9, 11, 32),
-    (0x00A1_2223, StoreOp::Sw, 2, 10, 4),
-    (0x800F_A023, StoreOp::Sw, 31, 0, -2048),
-    (0x7FF0_2FA3, StoreOp::Sw, 0, 31, 2047),
-    (0xFE62_AFA3, StoreOp::Sw, 5, 6, -1),
-    (0x0083_AFA3, StoreOp::Sw, 7, 8, 31),
-    (0x02B4_A023, StoreOp::Sw, 9, 11, 32),
-];
-
-/// Word, op, rd, rs1, imm.
-const IMMEDIATES: [(u32, ImmOp, u8, u8, i32); 28] = [
-    (0x0015_8513, ImmOp::Addi, 10, 11, 1),
-    (0x8000_0F93, ImmOp::Addi, 31, 0, -2048),
-    (0x7FFF_8013, ImmOp::Addi, 0, 31, 2047),
-    (0x0015_A513, ImmOp::Slti, 10, 11, 1),
-    (0x8000_2F93, ImmOp::Slti, 31, 0, -2048),
-    (0x7FFF_A013, ImmOp::Slti, 0, 31, 2047),
-    (0x0015_B513, ImmOp::Sltiu, 10, 11, 1),
-    (0x8000_3F93, ImmOp::Sltiu, 31, 0, -2048),
-    (0x7FFF_B013, ImmOp::Sltiu, 0, 31, 2047),
-    (0x0015_C513, ImmOp::Xori, 10, 11, 1),
-    (0x8000_4F93, ImmOp::Xori, 31, 0, -2048),
-    (0x7FFF_C013, ImmOp::Xori, 0, 31, 2047),
-    (0x0015_E513, ImmOp::Ori, 10, 11, 1),
-    (0x8000_6F93, ImmOp::Ori, 31, 0, -2048),
-    (0x7FFF_E013, ImmOp::Ori, 0, 31, 2047),
-    (0x0015_F513, ImmOp::Andi, 10, 11, 1),
-    (0x8000_7F93, ImmOp::Andi, 31, 0, -2048),
-    (0x7FFF_F013, ImmOp::Andi, 0, 31, 2047),
-    (0xFFF2_8293, ImmOp::Addi, 5, 5, -1),
-    (0x0015_9513, ImmOp::Slli, 10, 11, 1),
-    (0x0000_1F93, ImmOp::Slli, 31, 0, 0),
-    (0x01FF_9013, ImmOp::Slli, 0, 31, 31),
-    (0x0015_D513, ImmOp::Srli, 10, 11, 1),
-    (0x0000_5F93, ImmOp::Srli, 31, 0, 0),
-    (0x01FF_D013, ImmOp::Srli, 0, 31, 31),
-    (0x4015_D513, ImmOp::Srai, 10, 11, 1),
-    (0x4000_5F93, ImmOp::Srai, 31, 0, 0),
-    (0x41FF_D013, ImmOp::Srai, 0, 31, 31),
-];
-
-/// Word, op, rd, rs1, rs2.
-const REGISTERS: [(u32, RegOp, u8, u8, u8); 30] = [
-    (0x0031_00B3, RegOp::Add, 1, 2, 3),
-    (0x0100_0FB3, RegOp::Add, 31, 0, 16),
-    (0x008F_8033, RegOp::Add, 0, 31, 8),
-    (0x4031_00B3, RegOp::Sub, 1, 2, 3),
-    (0x4100_0FB3, RegOp::Sub, 31, 0, 16),
-    (0x408F_8033, RegOp::Sub, 0, 31, 8),
-    (0x0031_10B3, RegOp::Sll, 1, 2, 3),
-    (0x0100_1FB3, RegOp::Sll, 31, 0, 16),
-    (0x008F_9033, RegOp::Sll, 0, 31, 8),
-    (0x0031_20B3, RegOp::Slt, 1, 2, 3),
-    (0x0100_2FB3, RegOp::Slt, 31, 0, 16),
-    (0x008F_A033, RegOp::Slt, 0, 31, 8),
-    (0x0031_30B3, RegOp::Sltu, 1, 2, 3),
-    (0x0100_3FB3, RegOp::Sltu, 31, 0, 16),
-    (0x008F_B033, RegOp::Sltu, 0, 31, 8),
-    (0x0031_40B3, RegOp::Xor, 1, 2, 3),
-    (0x0100_4FB3, RegOp::Xor, 31, 0, 16),
-    (0x008F_C033, RegOp::Xor, 0, 31, 8),
-    (0x0031_50B3, RegOp::Srl, 1, 2, 3),
-    (0x0100_5FB3, RegOp::Srl, 31, 0, 16),
-    (0x008F_D033, RegOp::Srl, 0, 31, 8),
-    (0x4031_50B3, RegOp::Sra, 1, 2, 3),
-    (0x4100_5FB3, RegOp::Sra, 31, 0, 16),
-    (0x408F_D033, RegOp::Sra, 0, 31, 8),
-    (0x0031_60B3, RegOp::Or, 1, 2, 3),
-    (0x0100_6FB3, RegOp::Or, 31, 0, 16),
-    (0x008F_E033, RegOp::Or, 0, 31, 8),
-    (0x0031_70B3, RegOp::And, 1, 2, 3),
-    (0x0100_7FB3, RegOp::And, 31, 0, 16),
-    (0x008F_F033, RegOp::And, 0, 31, 8),
+/// Words, and what each spells.
+const WORDS: &[(u32, Row)] = &[
+    (0x1234_50B7, Lui(1, 0x1234_5000)),
+    (0x0000_0037, Lui(0, 0x0000_0000)),
+    (0xFFFF_FFB7, Lui(31, 0xFFFF_F000)),
+    (0x8000_08B7, Lui(17, 0x8000_0000)),
+    (0x0000_1537, Lui(10, 0x0000_1000)),
+    (0x1234_5097, Auipc(1, 0x1234_5000)),
+    (0x0000_0017, Auipc(0, 0x0000_0000)),
+    (0xFFFF_FF97, Auipc(31, 0xFFFF_F000)),
+    (0x8000_0897, Auipc(17, 0x8000_0000)),
+    (0x0000_1517, Auipc(10, 0x0000_1000)),
+    (0x0080_00EF, Jal(1, 8)),
+    (0x8000_006F, Jal(0, -1048576)),
+    (0x7FFF_FFEF, Jal(31, 1048574)),
+    (0xFFFF_F2EF, Jal(5, -2)),
+    (0x0010_056F, Jal(10, 2048)),
+    (0x0000_14EF, Jal(9, 4096)),
+    (0x8008_066F, Jal(12, -524288)),
+    (0x0001_00E7, Jalr(1, 2, 0)),
+    (0x0000_8067, Jalr(0, 1, 0)),
+    (0x7FFF_0FE7, Jalr(31, 30, 2047)),
+    (0x8003_02E7, Jalr(5, 6, -2048)),
+    (0xFFF3_83E7, Jalr(7, 7, -1)),
+    (0x0020_8863, Branch(Beq, 1, 2, 16)),
+    (0x800F_8063, Branch(Beq, 31, 0, -4096)),
+    (0x7FF0_0FE3, Branch(Beq, 0, 31, 4094)),
+    (0x0020_9863, Branch(Bne, 1, 2, 16)),
+    (0x800F_9063, Branch(Bne, 31, 0, -4096)),
+    (0x7FF0_1FE3, Branch(Bne, 0, 31, 4094)),
+    (0x0020_C863, Branch(Blt, 1, 2, 16)),
+    (0x800F_C063, Branch(Blt, 31, 0, -4096)),
+    (0x7FF0_4FE3, Branch(Blt, 0, 31, 4094)),
+    (0x0020_D863, Branch(Bge, 1, 2, 16)),
+    (0x800F_D063, Branch(Bge, 31, 0, -4096)),
+    (0x7FF0_5FE3, Branch(Bge, 0, 31, 4094)),
+    (0x0020_E863, Branch(Bltu, 1, 2, 16)),
+    (0x800F_E063, Branch(Bltu, 31, 0, -4096)),
+    (0x7FF0_6FE3, Branch(Bltu, 0, 31, 4094)),
+    (0x0020_F863, Branch(Bgeu, 1, 2, 16)),
+    (0x800F_F063, Branch(Bgeu, 31, 0, -4096)),
+    (0x7FF0_7FE3, Branch(Bgeu, 0, 31, 4094)),
+    (0xFE41_8FE3, Branch(Beq, 3, 4, -2)),
+    (0x0062_90E3, Branch(Bne, 5, 6, 2048)),
+    (0x4083_C063, Branch(Blt, 7, 8, 1024)),
+    (0x00A4_DF63, Branch(Bge, 9, 10, 30)),
+    (0x0041_0503, Load(Lb, 10, 2, 4)),
+    (0x8000_0F83, Load(Lb, 31, 0, -2048)),
+    (0x7FFF_8003, Load(Lb, 0, 31, 2047)),
+    (0x0041_1503, Load(Lh, 10, 2, 4)),
+    (0x8000_1F83, Load(Lh, 31, 0, -2048)),
+    (0x7FFF_9003, Load(Lh, 0, 31, 2047)),
+    (0x0041_2503, Load(Lw, 10, 2, 4)),
+    (0x8000_2F83, Load(Lw, 31, 0, -2048)),
+    (0x7FFF_A003, Load(Lw, 0, 31, 2047)),
+    (0x0041_4503, Load(Lbu, 10, 2, 4)),
+    (0x8000_4F83, Load(Lbu, 31, 0, -2048)),
+    (0x7FFF_C003, Load(Lbu, 0, 31, 2047)),
+    (0x0041_5503, Load(Lhu, 10, 2, 4)),
+    (0x8000_5F83, Load(Lhu, 31, 0, -2048)),
+    (0x7FFF_D003, Load(Lhu, 0, 31, 2047)),
+    (0x00A1_0223, Store(Sb, 2, 10, 4)),
+    (0x800F_8023, Store(Sb, 31, 0, -2048)),
+    (0x7FF0_0FA3, Store(Sb, 0, 31, 2047)),
+    (0xFE62_8FA3, Store(Sb, 5, 6, -1)),
+    (0x0083_8FA3, Store(Sb, 7, 8, 31)),
+    (0x02B4_8023, Store(Sb, 9, 11, 32)),
+    (0x00A1_1223, Store(Sh, 2, 10, 4)),
+    (0x800F_9023, Store(Sh, 31, 0, -2048)),
+    (0x7FF0_1FA3, Store(Sh, 0, 31, 2047)),
+    (0xFE62_9FA3, Store(Sh, 5, 6, -1)),
+    (0x0083_9FA3, Store(Sh, 7, 8, 31)),
+    (0x02B4_9023, Store(Sh, 9, 11, 32)),
+    (0x00A1_2223, Store(Sw, 2, 10, 4)),
+    (0x800F_A023, Store(Sw, 31, 0, -2048)),
+    (0x7FF0_2FA3, Store(Sw, 0, 31, 2047)),
+    (0xFE62_AFA3, Store(Sw, 5, 6, -1)),
+    (0x0083_AFA3, Store(Sw, 7, 8, 31)),
+    (0x02B4_A023, Store(Sw, 9, 11, 32)),
+    (0x0015_8513, OpImm(Addi, 10, 11, 1)),
+    (0x8000_0F93, OpImm(Addi, 31, 0, -2048)),
+    (0x7FFF_8013, OpImm(Addi, 0, 31, 2047)),
+    (0x0015_A513, OpImm(Slti, 10, 11, 1)),
+    (0x8000_2F93, OpImm(Slti, 31, 0, -2048)),
+    (0x7FFF_A013, OpImm(Slti, 0, 31, 2047)),
+    (0x0015_B513, OpImm(Sltiu, 10, 11, 1)),
+    (0x8000_3F93, OpImm(Sltiu, 31, 0, -2048)),
+    (0x7FFF_B013, OpImm(Sltiu, 0, 31, 2047)),
+    (0x0015_C513, OpImm(Xori, 10, 11, 1)),
+    (0x8000_4F93, OpImm(Xori, 31, 0, -2048)),
+    (0x7FFF_C013, OpImm(Xori, 0, 31, 2047)),
+    (0x0015_E513, OpImm(Ori, 10, 11, 1)),
+    (0x8000_6F93, OpImm(Ori, 31, 0, -2048)),
+    (0x7FFF_E013, OpImm(Ori, 0, 31, 2047)),
+    (0x0015_F513, OpImm(Andi, 10, 11, 1)),
+    (0x8000_7F93, OpImm(Andi, 31, 0, -2048)),
+    (0x7FFF_F013, OpImm(Andi, 0, 31, 2047)),
+    (0xFFF2_8293, OpImm(Addi, 5, 5, -1)),
+    (0x0015_9513, OpImm(Slli, 10, 11, 1)),
+    (0x0000_1F93, OpImm(Slli, 31, 0, 0)),
+    (0x01FF_9013, OpImm(Slli, 0, 31, 31)),
+    (0x0015_D513, OpImm(Srli, 10, 11, 1)),
+    (0x0000_5F93, OpImm(Srli, 31, 0, 0)),
+    (0x01FF_D013, OpImm(Srli, 0, 31, 31)),
+    (0x4015_D513, OpImm(Srai, 10, 11, 1)),
+    (0x4000_5F93, OpImm(Srai, 31, 0, 0)),
+    (0x41FF_D013, OpImm(Srai, 0, 31, 31)),
+    (0x0031_00B3, Op(Add, 1, 2, 3)),
+    (0x0100_0FB3, Op(Add, 31, 0, 16)),
+    (0x008F_8033, Op(Add, 0, 31, 8)),
+    (0x4031_00B3, Op(Sub, 1, 2, 3)),
+    (0x4100_0FB3, Op(Sub, 31, 0, 16)),
+    (0x408F_8033, Op(Sub, 0, 31, 8)),
+    (0x0031_10B3, Op(Sll, 1, 2, 3)),
+    (0x0100_1FB3, Op(Sll, 31, 0, 16)),
+    (0x008F_9033, Op(Sll, 0, 31, 8)),
+    (0x0031_20B3, Op(Slt, 1, 2, 3)),
+    (0x0100_2FB3, Op(Slt, 31, 0, 16)),
+    (0x008F_A033, Op(Slt, 0, 31, 8)),
+    (0x0031_30B3, Op(Sltu, 1, 2, 3)),
+    (0x0100_3FB3, Op(Sltu, 31, 0, 16)),
+    (0x008F_B033, Op(Sltu, 0, 31, 8)),
+    (0x0031_40B3, Op(Xor, 1, 2, 3)),
+    (0x0100_4FB3, Op(Xor, 31, 0, 16)),
+    (0x008F_C033, Op(Xor, 0, 31, 8)),
+    (0x0031_50B3, Op(Srl, 1, 2, 3)),
+    (0x0100_5FB3, Op(Srl, 31, 0, 16)),
+    (0x008F_D033, Op(Srl, 0, 31, 8)),
+    (0x4031_50B3, Op(Sra, 1, 2, 3)),
+    (0x4100_5FB3, Op(Sra, 31, 0, 16)),
+    (0x408F_D033, Op(Sra, 0, 31, 8)),
+    (0x0031_60B3, Op(Or, 1, 2, 3)),
+    (0x0100_6FB3, Op(Or, 31, 0, 16)),
+    (0x008F_E033, Op(Or, 0, 31, 8)),
+    (0x0031_70B3, Op(And, 1, 2, 3)),
+    (0x0100_7FB3, Op(And, 31, 0, 16)),
+    (0x008F_F033, Op(And, 0, 31, 8)),
+    (0x0FF0_000F, Fence),
+    (0x0000_0073, Ecall),
+    (0x0010_0073, Ebreak),
 ];
 
 /// The full fence, `fence r, w`, `fence.tso`, `fence rw, rw`, `fence io, iorw`, and one with every free bit set.
-const FENCES: [u32; 6] = [
+const FENCES: &[u32] = &[
     0x0FF0_000F,
     0x0210_000F,
     0x8330_000F,
@@ -190,7 +193,7 @@ const FENCES: [u32; 6] = [
 ];
 
 /// Words of no instruction here.
-const OUTSIDE: [u32; 49] = [
+const OUTSIDE: &[u32] = &[
     0x0231_00B3, // mul x1, x2, x3
     0x0231_30B3, // mulhu x1, x2, x3
     0x0231_40B3, // div x1, x2, x3
@@ -242,124 +245,80 @@ const OUTSIDE: [u32; 49] = [
     0x0000_0012, // .word 0x00000012
 ];
 
-/// A word spells an instruction, and is the word that is given for it.
-fn check(rt: &impl Abort, word: u32, instr: Instr) {
-    assert_eq!(rt; decode(word), Some(instr), "{word:x}");
-    assert!(rt; fits(instr), "{word:x}");
-    assert_eq!(rt; encode(instr), word);
-}
+/// Immediates just outside formats U, I (and S), B and J, and of a shift; and a register that is none.
+const UNFIT: &[Row] = &[
+    Lui(1, 0x0000_0001),
+    Lui(1, 0x0000_0800),
+    Lui(1, 0xFFFF_FFFF),
+    Auipc(1, 0x0000_0001),
+    Auipc(1, 0x0000_0800),
+    Auipc(1, 0xFFFF_FFFF),
+    Jalr(1, 1, -2_049),
+    Jalr(1, 1, 2_048),
+    Jalr(1, 1, 4_095),
+    OpImm(Addi, 1, 1, -2_049),
+    OpImm(Addi, 1, 1, 2_048),
+    OpImm(Addi, 1, 1, 4_095),
+    OpImm(Srai, 1, 1, -1),
+    OpImm(Srai, 1, 1, 32),
+    Branch(Beq, 1, 1, -4_098),
+    Branch(Beq, 1, 1, 4_096),
+    Branch(Beq, 1, 1, 3),
+    Jal(1, -1_048_578),
+    Jal(1, 1_048_576),
+    Jal(1, 1),
+    Op(Add, 32, 1, 1),
+];
 
-#[test]
-fn words_without_funct3_are_the_assemblers(rt: HostRuntime) {
-    for (word, rd, imm) in LUI {
-        check(&rt, word, Instr::Lui { rd, imm });
-    }
-    for (word, rd, imm) in AUIPC {
-        check(&rt, word, Instr::Auipc { rd, imm });
-    }
-    for (word, rd, imm) in JAL {
-        check(&rt, word, Instr::Jal { rd, imm });
-    }
-    check(&rt, 0x0000_0073, Instr::Ecall);
-    check(&rt, 0x0010_0073, Instr::Ebreak);
-}
-
-#[test]
-fn words_of_jumps_and_branches_are_the_assemblers(rt: HostRuntime) {
-    for (word, rd, rs1, imm) in JALR {
-        check(&rt, word, Instr::Jalr { rd, rs1, imm });
-    }
-    for (word, op, rs1, rs2, imm) in BRANCHES {
-        check(&rt, word, Instr::Branch { op, rs1, rs2, imm });
-    }
-}
-
-#[test]
-fn words_of_loads_and_stores_are_the_assemblers(rt: HostRuntime) {
-    for (word, op, rd, rs1, imm) in LOADS {
-        check(&rt, word, Instr::Load { op, rd, rs1, imm });
-    }
-    for (word, op, rs1, rs2, imm) in STORES {
-        check(&rt, word, Instr::Store { op, rs1, rs2, imm });
-    }
-}
-
-#[test]
-fn words_of_operations_are_the_assemblers(rt: HostRuntime) {
-    for (word, op, rd, rs1, imm) in IMMEDIATES {
-        check(&rt, word, Instr::OpImm { op, rd, rs1, imm });
-    }
-    for (word, op, rd, rs1, rs2) in REGISTERS {
-        check(&rt, word, Instr::Op { op, rd, rs1, rs2 });
+/// The instruction of a row.
+fn instr_of(row: Row) -> Instr {
+    match row {
+        Lui(rd, imm) => Instr::Lui { rd, imm },
+        Auipc(rd, imm) => Instr::Auipc { rd, imm },
+        Jal(rd, imm) => Instr::Jal { rd, imm },
+        Jalr(rd, rs1, imm) => Instr::Jalr { rd, rs1, imm },
+        Branch(op, rs1, rs2, imm) => Instr::Branch { op, rs1, rs2, imm },
+        Load(op, rd, rs1, imm) => Instr::Load { op, rd, rs1, imm },
+        Store(op, rs1, rs2, imm) => Instr::Store { op, rs1, rs2, imm },
+        OpImm(op, rd, rs1, imm) => Instr::OpImm { op, rd, rs1, imm },
+        Op(op, rd, rs1, rs2) => Instr::Op { op, rd, rs1, rs2 },
+        Fence => Instr::Fence,
+        Ecall => Instr::Ecall,
+        Ebreak => Instr::Ebreak,
     }
 }
 
+/// What a word spells. What it is is not said, here and below, so that the tests are proved quickly.
+fn spelled(word: u32) -> Option<Instr> {
+    decode(word)
+}
+
+/// Whether a word spells an instruction, and is the word that is given for it.
+fn is_word(word: u32, row: Row) -> bool {
+    let instr = instr_of(row);
+    fits(instr) && encode(instr) == word && spelled(word) == Some(instr)
+}
+
+fn is_unfit(row: Row) -> bool {
+    !fits(instr_of(row))
+}
+
 #[test]
-fn every_fence_is_one_instruction(rt: HostRuntime) {
+fn words_are_the_assemblers(rt: HostRuntime) {
+    for (word, row) in WORDS {
+        assert!(rt; is_word(*word, *row), "{word:x}");
+    }
     for word in FENCES {
-        assert_eq!(rt; decode(word), Some(Instr::Fence), "{word:x}");
+        assert!(rt; spelled(*word) == Some(Instr::Fence), "{word:x}");
     }
-    check(&rt, 0x0FF0_000F, Instr::Fence);
-}
-
-#[test]
-fn other_words_are_no_instruction(rt: HostRuntime) {
     for word in OUTSIDE {
-        assert_eq!(rt; decode(word), None, "{word:x}");
+        assert!(rt; spelled(*word) == None, "{word:x}");
     }
 }
 
-/// Immediates just outside formats U, I (and S), B and J, and of a shift.
 #[test]
 fn what_no_word_spells_does_not_fit(rt: HostRuntime) {
-    for imm in [0x0000_0001, 0x0000_0800, 0xFFFF_FFFF] {
-        assert!(rt; !fits(Instr::Lui { rd: 1, imm }));
-        assert!(rt; !fits(Instr::Auipc { rd: 1, imm }));
+    for (number, row) in UNFIT.iter().enumerate() {
+        assert!(rt; is_unfit(*row), "row {number}");
     }
-    for imm in [-2_049, 2_048, 4_095] {
-        let op = ImmOp::Addi;
-        assert!(rt; !fits(Instr::Jalr { rd: 1, rs1: 1, imm }));
-        assert!(rt;
-            !fits(Instr::OpImm {
-                op,
-                rd: 1,
-                rs1: 1,
-                imm
-            })
-        );
-    }
-    for imm in [-1, 32] {
-        let op = ImmOp::Srai;
-        assert!(rt;
-            !fits(Instr::OpImm {
-                op,
-                rd: 1,
-                rs1: 1,
-                imm
-            })
-        );
-    }
-    for imm in [-4_098, 4_096, 3] {
-        let op = BranchOp::Beq;
-        assert!(rt;
-            !fits(Instr::Branch {
-                op,
-                rs1: 1,
-                rs2: 1,
-                imm
-            })
-        );
-    }
-    for imm in [-1_048_578, 1_048_576, 1] {
-        assert!(rt; !fits(Instr::Jal { rd: 1, imm }));
-    }
-    let op = RegOp::Add;
-    assert!(rt;
-        !fits(Instr::Op {
-            op,
-            rd: 32,
-            rs1: 1,
-            rs2: 1
-        })
-    );
 }
