@@ -39,7 +39,7 @@ fn from(file: &[u8], place: usize) -> &[u8] {
 }
 
 // The word at a place of a file.
-pub fn word_at(file: &[u8], place: usize) -> Option<u32> {
+fn word_at(file: &[u8], place: usize) -> Option<u32> {
     match from(file, place) {
         [a, b, c, d, ..] => Some(u32::from_le_bytes([*a, *b, *c, *d])),
         _ => None,
@@ -142,7 +142,7 @@ fn numbers(alloc: Global, before: &[u8], row: &[u8]) -> Result<Vec<u8>, Fail> {
 }
 
 // Whether the file of a row's source holds what is expected.
-fn holds(alloc: Global, form: Form, row: &[u8]) -> Result<bool, Fail> {
+pub fn holds_parts(alloc: Global, form: Form, row: &[u8]) -> Result<bool, Fail> {
     let (source, expected) = sides(row).ok_or("no row")?;
     let (before, after, nop) = match form {
         Form::Parts => (b"".as_slice(), b"".as_slice(), b"".as_slice()),
@@ -160,45 +160,6 @@ fn holds(alloc: Global, form: Form, row: &[u8]) -> Result<bool, Fail> {
         Form::Text => joined(alloc, nop, expected)?,
     };
     Ok(from(file.as_slice(), 116) == parts.as_slice())
-}
-
-// Checks that the file of each source holds what is expected.
-pub fn check_parts(alloc: Global, form: Form, rows: &[u8]) -> Result<(), Fail> {
-    let mut rest = rows;
-    for number in 1..=rows.len() {
-        let (row, others) = first_row(rest);
-        if !holds(alloc, form, row)? {
-            return Err(Fail::new(number));
-        }
-        if others.is_empty() {
-            break;
-        }
-        rest = others;
-    }
-    Ok(())
-}
-
-// Checks that each of these lines behind others is refused for a reason.
-pub fn check_refused(
-    alloc: Global,
-    before: &[u8],
-    rows: &[u8],
-    kind: AsmKind,
-    line: u32,
-) -> Result<(), Fail> {
-    let mut rest = rows;
-    for number in 1..=rows.len() {
-        let (row, others) = first_row(rest);
-        let source = joined(alloc, before, row)?;
-        if refusal(alloc, source.as_slice()) != Some(AsmFault::At { kind, line }) {
-            return Err(Fail::new(number));
-        }
-        if others.is_empty() {
-            break;
-        }
-        rest = others;
-    }
-    Ok(())
 }
 
 // What a refusal is named in a row.
@@ -230,31 +191,20 @@ fn fault_of(expected: &[u8]) -> Option<AsmFault> {
 }
 
 // Whether the source of a row is refused as is expected.
-fn is_refused(alloc: Global, row: &[u8]) -> Result<bool, Fail> {
+pub fn is_refused(alloc: Global, row: &[u8]) -> Result<bool, Fail> {
     let (source, expected) = sides(row).ok_or("no row")?;
     let fault = fault_of(expected).ok_or("no refusal")?;
     let source = joined(alloc, b"", source)?;
     Ok(refusal(alloc, source.as_slice()) == Some(fault))
 }
 
-// Checks that each source is refused as is expected.
-pub fn check_refusals(alloc: Global, rows: &[u8]) -> Result<(), Fail> {
-    let mut rest = rows;
-    for number in 1..=rows.len() {
-        let (row, others) = first_row(rest);
-        if !is_refused(alloc, row)? {
-            return Err(Fail::new(number));
-        }
-        if others.is_empty() {
-            break;
-        }
-        rest = others;
-    }
-    Ok(())
-}
-
-// Whether the file of a row has these words at their places.
-pub fn has_words(alloc: Global, row: &[u8], words: &[(usize, u32)]) -> Result<bool, Fail> {
+// Whether the file of a row has so many bytes, and these words at their places.
+pub fn has_words(
+    alloc: Global,
+    row: &[u8],
+    length: usize,
+    words: &[(usize, u32)],
+) -> Result<bool, Fail> {
     let source = joined(alloc, b"", row)?;
     let file = file_of(alloc, source.as_slice())?;
     for (place, word) in words {
@@ -262,12 +212,16 @@ pub fn has_words(alloc: Global, row: &[u8], words: &[(usize, u32)]) -> Result<bo
             return Ok(false);
         }
     }
-    Ok(true)
+    Ok(file.len() == length)
 }
 
-// How many bytes the file of a row has.
-pub fn length(alloc: Global, row: &[u8]) -> Result<usize, Fail> {
-    let source = joined(alloc, b"", row)?;
-    let file = file_of(alloc, source.as_slice())?;
-    Ok(file.len())
+// Whether a line behind others is refused for a reason.
+pub fn is_refused_behind(
+    alloc: Global,
+    before: &[u8],
+    row: &[u8],
+    fault: AsmFault,
+) -> Result<bool, AllocError> {
+    let source = joined(alloc, before, row)?;
+    Ok(refusal(alloc, source.as_slice()) == Some(fault))
 }

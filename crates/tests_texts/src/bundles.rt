@@ -7,8 +7,9 @@
 ghost use Rattle.std.specs.Prelude.{◌≡◌, ◌≤◌, List, ℕ};
 ghost use Rattle.bundle.specs.Views.{IsOpen};
 
-use crate::assembling::{file_of, first_row, joined, sides};
+use crate::assembling::{file_of, joined, sides};
 use crate::streams::{byte_source, mem_source, rest_of_bytes};
+use crate::tables::{Case, Table, check_tables};
 use bundle::{BundleFault, BundleKind, BundleReader, Entry, next_entry};
 use kn_io::{ByteSource, MemSource, Source};
 use std::alloc::{AllocError, Global};
@@ -130,7 +131,7 @@ fn given(alloc: Global, first: Option<u8>, bytes: &[u8]) -> Result<Vec<u8>, Fail
 }
 
 // Whether a row's bundle gives what the row says, whole and with its first byte read before.
-fn holds(alloc: Global, before: &[u8], row: &[u8]) -> Result<bool, Fail> {
+pub fn holds_entries(alloc: Global, before: &[u8], row: &[u8]) -> Result<bool, Fail> {
     let (bytes, expected) = sides(row).ok_or("no row")?;
     let bytes = joined(alloc, before, bytes)?;
     let expected = joined(alloc, b"", expected)?;
@@ -143,22 +144,6 @@ fn holds(alloc: Global, before: &[u8], row: &[u8]) -> Result<bool, Fail> {
         ),
         _ => Ok(true),
     }
-}
-
-// Checks what each bundle gives.
-fn check(alloc: Global, before: &[u8], rows: &[u8]) -> Result<(), Fail> {
-    let mut rest = rows;
-    for number in 1..=rows.len() {
-        let (row, others) = first_row(rest);
-        if !holds(alloc, before, row)? {
-            return Err(Fail::new(number));
-        }
-        if others.is_empty() {
-            break;
-        }
-        rest = others;
-    }
-    Ok(())
 }
 
 const FIRST: &[u8] = b"keynix bundle 1\n";
@@ -185,11 +170,6 @@ keynix bundle 1|keynix bundle 1| => Syntax 2\n\
 \x7FELF => Syntax 1\n\
 ";
 
-#[test]
-fn the_first_line_says_what_the_text_is(rt: HostRuntime) -> Result<(), Fail> {
-    check(rt.alloc(), b"", FIRST_LINES)
-}
-
 const ENDS: &[u8] = b"\
 text /init 0|end => 2 file /init ;end \n\
 text /init 0|end| => 2 file /init ;end \n\
@@ -207,11 +187,6 @@ text /init 0| => 2 file /init ;Syntax 3\n\
 text /init 0 => 2 file /init ;Syntax 3\n\
 text /init 2|end|end|end|end => 2 file /init end|end|;end end\n\
 ";
-
-#[test]
-fn the_end_leaves_what_follows_its_line(rt: HostRuntime) -> Result<(), Fail> {
-    check(rt.alloc(), FIRST, ENDS)
-}
 
 const LINES: &[u8] = b"\
 dir => Syntax 2\n\
@@ -266,11 +241,6 @@ dir {1020*/}| => BadPath 2\n\
 text /{1017*a} 0| => TooLong 2\n\
 end{1022* }| => TooLong 2\n\
 ";
-
-#[test]
-fn lines_that_say_no_entry_are_refused(rt: HostRuntime) -> Result<(), Fail> {
-    check(rt.alloc(), FIRST, LINES)
-}
 
 const PATHS: &[u8] = b"\
 dir / => BadPath 2\n\
@@ -327,11 +297,6 @@ hex /a/b 1 => NoParent 2\n\
 asm /a/b 1 => NoParent 2\n\
 ";
 
-#[test]
-fn paths_are_looked_up(rt: HostRuntime) -> Result<(), Fail> {
-    check(rt.alloc(), FIRST, PATHS)
-}
-
 const PARTS: &[u8] = b"\
 text /a 1|x => 2 file /a x|;Syntax 4\n\
 text /a 1|x| => 2 file /a x|;Syntax 4\n\
@@ -374,11 +339,6 @@ hex /a 1| => Syntax 3\n\
 hex /a 0|end => 2 file /a ;NoInit 3\n\
 ";
 
-#[test]
-fn files_are_made_from_their_lines(rt: HostRuntime) -> Result<(), Fail> {
-    check(rt.alloc(), FIRST, PARTS)
-}
-
 const SOURCES: &[u8] = b"\
 asm /init 1|nop|end|hi => 2 file /init elf 120;end hi\n\
 asm /init 3|li a0, 7|li a7, 1|ecall|end => 2 file /init elf 128;end \n\
@@ -417,9 +377,18 @@ hex /a 100000|{99999*41|}4|end => BadHex 100002\n\
 text /a 100000|{100000*|}end => 2 file /a {100000*|};NoInit 100003\n\
 ";
 
+const TABLES: &[Table] = &[
+    (Case::Bundle(b""), FIRST_LINES),
+    (Case::Bundle(FIRST), ENDS),
+    (Case::Bundle(FIRST), LINES),
+    (Case::Bundle(FIRST), PATHS),
+    (Case::Bundle(FIRST), PARTS),
+    (Case::Bundle(FIRST), SOURCES),
+];
+
 #[test]
-fn sources_are_assembled(rt: HostRuntime) -> Result<(), Fail> {
-    check(rt.alloc(), FIRST, SOURCES)
+fn bundles_give_their_entries_and_refusals(rt: HostRuntime) -> Result<(), Fail> {
+    check_tables(rt.alloc(), TABLES)
 }
 
 // The file of the first entry of a bundle with one.
@@ -435,33 +404,45 @@ fn first_file(alloc: Global, bytes: &[u8]) -> Result<Vec<u8>, Fail> {
     }
 }
 
-#[test]
-fn a_program_is_what_the_assembler_makes(rt: HostRuntime) -> Result<(), Fail> {
-    let alloc = rt.alloc();
-    let source = b"j end\n\n.data # b\ntext: .ascii \"x # y\"\n.text\nend: la a0, text\n";
-    let bundle =
-        b"keynix bundle 1\nasm /a 6\nj end\n\n.data # b\ntext: .ascii \"x # y\"\n.text\nend: la a0, text";
-    let expected = file_of(alloc, source)?;
-    assert!(rt; first_file(alloc, bundle)?.as_slice() == expected.as_slice());
-    let expected = file_of(alloc, userland::CAT)?;
-    let bundle = b"keynix bundle 1\nuser /bin cat";
-    assert!(rt; first_file(alloc, bundle)?.as_slice() == expected.as_slice());
-    Ok(())
-}
+// A bundle with one entry, and the source of its program.
+const PROGRAMS: &[(&[u8], &[u8])] = &[
+    (
+        b"keynix bundle 1\nasm /a 6\nj end\n\n.data # b\ntext: .ascii \"x # y\"\n.text\nend: la a0, text",
+        b"j end\n\n.data # b\ntext: .ascii \"x # y\"\n.text\nend: la a0, text\n",
+    ),
+    (b"keynix bundle 1\nuser /bin cat", userland::CAT),
+];
 
 const USERS: &[&[u8]] = &[b"init", b"echo", b"cat", b"tee", b"wc", b"ls", b"pump"];
 
+// How many bytes the file of a program of the userland has.
+fn length_of_user(alloc: Global, name: &[u8]) -> Result<usize, Fail> {
+    let mut bundle = Vec::from_slice(alloc, b"keynix bundle 1\nuser /a ")?;
+    bundle.extend_from_slice(name)?;
+    Ok(first_file(alloc, bundle.as_slice())?.len())
+}
+
 #[test]
-fn each_program_of_the_userland_is_a_file(rt: HostRuntime) -> Result<(), Fail> {
+fn programs_are_what_the_assembler_makes(rt: HostRuntime) -> Result<(), Fail> {
     let alloc = rt.alloc();
+    for (bundle, source) in PROGRAMS {
+        let expected = file_of(alloc, source)?;
+        assert!(rt; first_file(alloc, bundle)?.as_slice() == expected.as_slice());
+    }
     for name in USERS {
-        let mut bundle = Vec::from_slice(alloc, b"keynix bundle 1\nuser /a ")?;
-        bundle.extend_from_slice(*name)?;
-        let file = first_file(alloc, bundle.as_slice())?;
-        assert!(rt; file.len() > 116);
+        assert!(rt; length_of_user(alloc, name)? > 116);
     }
     Ok(())
 }
+
+// How many directories a bundle has, what is behind them, and the last that is given.
+const CROWDS: &[(u32, &[u8], &[u8])] = &[
+    (4095, b"text /init 1\nx\nend\nin", b"end"),
+    (4096, b"end\n", b"NoInit 4098"),
+    (4096, b"dir /x\nend\n", b"TooLong 4098"),
+    (4096, b"foo\nend\n", b"TooLong 4098"),
+    (4096, b"", b"Syntax 4098"),
+];
 
 // A bundle with so many directories, and this behind them.
 fn crowded(alloc: Global, count: u32, last: &[u8]) -> Result<Vec<u8>, Fail> {
@@ -496,16 +477,10 @@ fn last_told(alloc: Global, bundle: &[u8]) -> Result<Vec<u8>, Fail> {
 #[test]
 fn no_line_but_the_end_follows_4096_entries(rt: HostRuntime) -> Result<(), Fail> {
     let alloc = rt.alloc();
-    let few = crowded(alloc, 4095, b"text /init 1\nx\nend\nin")?;
-    assert!(rt; last_told(alloc, few.as_slice())?.as_slice() == b"end".as_slice());
-    let full = crowded(alloc, 4096, b"end\n")?;
-    assert!(rt; last_told(alloc, full.as_slice())?.as_slice() == b"NoInit 4098".as_slice());
-    let more = crowded(alloc, 4096, b"dir /x\nend\n")?;
-    assert!(rt; last_told(alloc, more.as_slice())?.as_slice() == b"TooLong 4098".as_slice());
-    let wrong = crowded(alloc, 4096, b"foo\nend\n")?;
-    assert!(rt; last_told(alloc, wrong.as_slice())?.as_slice() == b"TooLong 4098".as_slice());
-    let cut = crowded(alloc, 4096, b"")?;
-    assert!(rt; last_told(alloc, cut.as_slice())?.as_slice() == b"Syntax 4098".as_slice());
+    for (count, last, told) in CROWDS {
+        let bundle = crowded(alloc, *count, last)?;
+        assert!(rt; last_told(alloc, bundle.as_slice())?.as_slice() == *told);
+    }
     Ok(())
 }
 

@@ -15,4 +15,6 @@ mod statements;
 #[cfg(test)]
 mod streams;
 #[cfg(test)]
+mod tables;
+#[cfg(test)]
 mod workloads;

@@ -5,6 +5,7 @@ ghost use Rattle.unix_model.specs.Texts.{lines_of};
 
 use crate::assembling::{first_row, joined, sides};
 use crate::streams::{byte_source, mem_source, rest_of_bytes};
+use crate::tables::{Case, Table, check_tables};
 use arrayvec::ArrayVec;
 use kn_io::{ByteSource, Source};
 use kn_text::{LineFault, LineReader, NumberFault, number_of};
@@ -63,7 +64,7 @@ fn lines_found(
 }
 
 // Whether the source of a row has the lines of the row, and a reader of all but its first byte behind that byte.
-fn has_lines(alloc: Global, row: &[u8], is_behind: bool) -> Result<bool, Fail> {
+pub fn has_lines(alloc: Global, row: &[u8], is_behind: bool) -> Result<bool, Fail> {
     let (bytes, expected) = sides(row).ok_or("no row")?;
     let bytes = joined(alloc, b"", bytes)?;
     let (first, bytes) = match bytes.as_slice() {
@@ -75,22 +76,6 @@ fn has_lines(alloc: Global, row: &[u8], is_behind: bool) -> Result<bool, Fail> {
     Ok(found.as_slice() == expected)
 }
 
-// Checks the lines of each source.
-fn check_lines(alloc: Global, rows: &[u8], is_behind: bool) -> Result<(), Fail> {
-    let mut rest = rows;
-    for number in 1..=rows.len() {
-        let (row, others) = first_row(rest);
-        if !has_lines(alloc, row, is_behind)? {
-            return Err(Fail::new(number));
-        }
-        if others.is_empty() {
-            break;
-        }
-        rest = others;
-    }
-    Ok(())
-}
-
 const LINES: &[u8] = b"\
 \x20=> \n\
 | => ;\n\
@@ -100,11 +85,6 @@ ab|cd => ab;cd;\n\
 ||a|| => ;;a;;\n\
 a\r|\0\xFF => a\r;\0\xFF;\n\
 ";
-
-#[test]
-fn lines_are_the_parts_between_line_feeds(rt: HostRuntime) -> Result<(), Fail> {
-    check_lines(rt.alloc(), LINES, false)
-}
 
 // How many lines a source has. A test has a few only.
 fn count_lines<S: Source>(from: &mut S) -> Result<u32, LineFault>
@@ -129,32 +109,29 @@ fn counted(alloc: Global, bytes: &[u8]) -> Result<Option<u32>, Fail> {
     Ok(rest_of_bytes(&source).is_empty().then_some(count))
 }
 
-#[test]
-fn all_lines_of_a_source_are_read(rt: HostRuntime) -> Result<(), Fail> {
-    let alloc = rt.alloc();
-    assert_eq!(rt; counted(alloc, b"")?, Some(0));
-    assert_eq!(rt; counted(alloc, b"\n")?, Some(1));
-    assert_eq!(rt; counted(alloc, b"a")?, Some(1));
-    assert_eq!(rt; counted(alloc, b"a\n\nb")?, Some(3));
-    assert_eq!(rt; counted(alloc, b"\n\n\n")?, Some(3));
-    Ok(())
-}
+const COUNTS: &[(&[u8], u32)] = &[
+    (b"", 0),
+    (b"\n", 1),
+    (b"a", 1),
+    (b"a\n\nb", 3),
+    (b"\n\n\n", 3),
+];
 
 // Whether a text is cut into this line and the rest.
 fn is_cut(text: &[u8], line: &[u8], rest: &[u8]) -> bool {
     first_row(text) == (line, rest)
 }
 
-#[test]
-fn a_text_in_memory_is_cut_at_its_first_line_feed(rt: HostRuntime) {
-    assert!(rt; is_cut(b"", b"", b""));
-    assert!(rt; is_cut(b"\n", b"", b""));
-    assert!(rt; is_cut(b"\na", b"", b"a"));
-    assert!(rt; is_cut(b"ab", b"ab", b""));
-    assert!(rt; is_cut(b"ab\n", b"ab", b""));
-    assert!(rt; is_cut(b"ab\ncd\n", b"ab", b"cd\n"));
-    assert!(rt; is_cut(b"ab\n\n", b"ab", b"\n"));
-}
+// A text, and what it is cut into.
+const CUTS: &[(&[u8], &[u8], &[u8])] = &[
+    (b"", b"", b""),
+    (b"\n", b"", b""),
+    (b"\na", b"", b"a"),
+    (b"ab", b"ab", b""),
+    (b"ab\n", b"ab", b""),
+    (b"ab\ncd\n", b"ab", b"cd\n"),
+    (b"ab\n\n", b"ab", b"\n"),
+];
 
 const LINES_BEHIND_A_BYTE: &[u8] = b"\
 ab|c => ab;c;\n\
@@ -164,10 +141,15 @@ a|c => a;c;\n\
 a => a;\n\
 ";
 
-#[test]
-fn a_byte_that_was_read_before_stands_first(rt: HostRuntime) -> Result<(), Fail> {
-    check_lines(rt.alloc(), LINES_BEHIND_A_BYTE, true)
-}
+// A source, what is read of it first, how many bytes the line has, and how many are left.
+const LONG_LINES: &[(&[u8], Result<bool, LineFault>, usize, usize)] = &[
+    (b"{1023*a}|b", Ok(true), 1023, 1),
+    (b"{1024*a}|b", Ok(true), 1024, 1),
+    (b"{1024*a}", Ok(true), 1024, 0),
+    (b"{1025*a}|b", Err(LineFault::TooLong), 1024, 2),
+    (b"{1025*a}", Err(LineFault::TooLong), 1024, 0),
+    (b"{3000*a}", Err(LineFault::TooLong), 1024, 1975),
+];
 
 // What is read of a source, how many bytes the line has, and how many are left.
 fn long_line(
@@ -180,28 +162,6 @@ fn long_line(
     Ok((read, line.len(), rest_of_bytes(&source).len()))
 }
 
-// Whether a line of a source has so many bytes, and so many are left.
-fn is_whole(alloc: Global, source: &[u8], length: usize, left: usize) -> Result<bool, Fail> {
-    Ok(long_line(alloc, source)? == (Ok(true), length, left))
-}
-
-// Whether a line of a source is too long, and so many bytes are left.
-fn is_too_long(alloc: Global, source: &[u8], left: usize) -> Result<bool, Fail> {
-    Ok(long_line(alloc, source)? == (Err(LineFault::TooLong), 1024, left))
-}
-
-#[test]
-fn a_line_has_1024_bytes_at_most(rt: HostRuntime) -> Result<(), Fail> {
-    let alloc = rt.alloc();
-    assert!(rt; is_whole(alloc, b"{1023*a}|b", 1023, 1)?);
-    assert!(rt; is_whole(alloc, b"{1024*a}|b", 1024, 1)?);
-    assert!(rt; is_whole(alloc, b"{1024*a}", 1024, 0)?);
-    assert!(rt; is_too_long(alloc, b"{1025*a}|b", 2)?);
-    assert!(rt; is_too_long(alloc, b"{1025*a}", 0)?);
-    assert!(rt; is_too_long(alloc, b"{3000*a}", 1975)?);
-    Ok(())
-}
-
 // What is read twice behind a line feed, and the number of the last line.
 type Twice = (Result<bool, LineFault>, Result<bool, LineFault>, u32);
 
@@ -212,13 +172,6 @@ fn read_twice(alloc: Global, source: &[u8]) -> Result<Twice, Fail> {
     let first = next(&mut reader, &mut source, &mut line);
     let second = next(&mut reader, &mut source, &mut line);
     Ok((first, second, number_of_line(&reader)))
-}
-
-#[test]
-fn a_line_that_is_too_long_was_begun(rt: HostRuntime) -> Result<(), Fail> {
-    let read = read_twice(rt.alloc(), b"{1025*a}|")?;
-    assert_eq!(rt; read, (Ok(true), Err(LineFault::TooLong), 2));
-    Ok(())
 }
 
 // Whether so many lines of two come before a call that fails, and this part of the next one, with this number.
@@ -245,44 +198,54 @@ fn is_fault(
     )
 }
 
+// A call that fails, how many lines come before it, and what of the next one, with its number.
+const FAULTS: &[(u32, usize, &[u8], u32)] = &[
+    (0, 0, b"", 0),
+    (1, 0, b"a", 1),
+    (2, 0, b"ab", 1),
+    (3, 1, b"", 1),
+    (4, 1, b"c", 2),
+];
+
+const TABLES: &[Table] = &[
+    (Case::Lines(false), LINES),
+    (Case::Lines(true), LINES_BEHIND_A_BYTE),
+    (Case::NoNumber, NO_NUMBERS),
+];
+
 #[test]
-fn a_read_that_fails_is_a_read_fault_wherever_it_stands(rt: HostRuntime) -> Result<(), Fail> {
+fn lines_are_read_up_to_their_limits(rt: HostRuntime) -> Result<(), Fail> {
     let alloc = rt.alloc();
-    assert!(rt; is_fault(alloc, 0, 0, b"", 0)?);
-    assert!(rt; is_fault(alloc, 1, 0, b"a", 1)?);
-    assert!(rt; is_fault(alloc, 2, 0, b"ab", 1)?);
-    assert!(rt; is_fault(alloc, 3, 1, b"", 1)?);
-    assert!(rt; is_fault(alloc, 4, 1, b"c", 2)?);
+    check_tables(alloc, TABLES)?;
+    for (text, count) in COUNTS {
+        assert!(rt; counted(alloc, text)? == Some(*count), "{count}");
+    }
+    for (text, line, rest) in CUTS {
+        assert!(rt; is_cut(text, line, rest));
+    }
+    for (source, read, length, left) in LONG_LINES {
+        assert!(rt; long_line(alloc, source)? == (*read, *length, *left));
+    }
+    let begun = (Ok(true), Err(LineFault::TooLong), 2);
+    assert!(rt; read_twice(alloc, b"{1025*a}|")? == begun);
+    for (call, lines, part, number) in FAULTS {
+        assert!(rt; is_fault(alloc, *call, *lines, part, *number)?, "{call}");
+    }
     Ok(())
 }
 
-// Whether a text is a number up to a limit.
-fn is_number(text: &[u8], most: u64, number: u64) -> bool {
-    number_of(text, most) == Ok(number)
+// What a text is as a number up to a limit.
+fn answer(text: &[u8], most: u64) -> Result<u64, NumberFault> {
+    number_of(text, most)
 }
 
-// Whether a text is a number above a limit.
-fn is_too_large(text: &[u8], most: u64) -> bool {
-    number_of(text, most) == Err(NumberFault::TooLarge)
-}
-
-// Whether a text is no number, whatever the limit.
-fn is_no_number(text: &[u8]) -> bool {
-    number_of(text, u64::MAX) == Err(NumberFault::NotANumber)
-        && number_of(text, 0) == Err(NumberFault::NotANumber)
-}
-
-#[test]
-fn a_number_is_plain_decimal(rt: HostRuntime) {
-    let most = u64::MAX;
-    assert!(rt; is_number(b"0", most, 0));
-    assert!(rt; is_number(b"1", most, 1));
-    assert!(rt; is_number(b"9", most, 9));
-    assert!(rt; is_number(b"10", most, 10));
-    assert!(rt; is_number(b"1024", most, 1024));
-    assert!(rt; is_number(b"4294967296", most, 4_294_967_296));
-    assert!(rt; is_number(b"18446744073709551614", most, 18_446_744_073_709_551_614));
-    assert!(rt; is_number(b"18446744073709551615", most, u64::MAX));
+// Whether the text of a row is no number, whatever the limit.
+pub fn is_no_number_row(alloc: Global, row: &[u8]) -> Result<bool, Fail> {
+    let text = joined(alloc, b"", row)?;
+    Ok(
+        answer(text.as_slice(), u64::MAX) == Err(NumberFault::NotANumber)
+            && answer(text.as_slice(), 0) == Err(NumberFault::NotANumber),
+    )
 }
 
 const NO_NUMBERS: &[u8] = b"\
@@ -306,34 +269,62 @@ a\n\
 000000000000000000000000000000\n\
 ";
 
-#[test]
-fn other_texts_are_no_numbers(rt: HostRuntime) -> Result<(), Fail> {
-    let mut rest = NO_NUMBERS;
-    for number in 1..=NO_NUMBERS.len() {
-        let (row, others) = first_row(rest);
-        let text = joined(rt.alloc(), b"", row)?;
-        assert!(rt; is_no_number(text.as_slice()), "{number}");
-        if others.is_empty() {
-            break;
-        }
-        rest = others;
-    }
-    Ok(())
-}
+// A text, a limit and the answer.
+const NUMBERS: &[(&[u8], u64, Result<u64, NumberFault>)] = &[
+    (b"0", u64::MAX, Ok(0)),
+    (b"1", u64::MAX, Ok(1)),
+    (b"9", u64::MAX, Ok(9)),
+    (b"10", u64::MAX, Ok(10)),
+    (b"1024", u64::MAX, Ok(1024)),
+    (b"4294967296", u64::MAX, Ok(4_294_967_296)),
+    (
+        b"18446744073709551614",
+        u64::MAX,
+        Ok(18_446_744_073_709_551_614),
+    ),
+    (b"18446744073709551615", u64::MAX, Ok(u64::MAX)),
+    (b"1", 0, Err(NumberFault::TooLarge)),
+    (b"64", 63, Err(NumberFault::TooLarge)),
+    (b"100001", 100_000, Err(NumberFault::TooLarge)),
+    (b"4294967296", 4_294_967_295, Err(NumberFault::TooLarge)),
+    (
+        b"18446744073709551615",
+        18_446_744_073_709_551_614,
+        Err(NumberFault::TooLarge),
+    ),
+    (
+        b"18446744073709551616",
+        u64::MAX,
+        Err(NumberFault::TooLarge),
+    ),
+    (
+        b"18446744073709551617",
+        u64::MAX,
+        Err(NumberFault::TooLarge),
+    ),
+    (
+        b"36893488147419103232",
+        u64::MAX,
+        Err(NumberFault::TooLarge),
+    ),
+    (
+        b"340282366920938463463374607431768211456",
+        u64::MAX,
+        Err(NumberFault::TooLarge),
+    ),
+    (
+        b"123456789012345678901234567890",
+        1,
+        Err(NumberFault::TooLarge),
+    ),
+    (b"0", 0, Ok(0)),
+    (b"63", 63, Ok(63)),
+    (b"100000", 100_000, Ok(100_000)),
+];
 
 #[test]
-fn a_number_above_the_limit_is_too_large_however_long(rt: HostRuntime) {
-    assert!(rt; is_too_large(b"1", 0));
-    assert!(rt; is_too_large(b"64", 63));
-    assert!(rt; is_too_large(b"100001", 100_000));
-    assert!(rt; is_too_large(b"4294967296", 4_294_967_295));
-    assert!(rt; is_too_large(b"18446744073709551615", 18_446_744_073_709_551_614));
-    assert!(rt; is_too_large(b"18446744073709551616", u64::MAX));
-    assert!(rt; is_too_large(b"18446744073709551617", u64::MAX));
-    assert!(rt; is_too_large(b"36893488147419103232", u64::MAX));
-    assert!(rt; is_too_large(b"340282366920938463463374607431768211456", u64::MAX));
-    assert!(rt; is_too_large(b"123456789012345678901234567890", 1));
-    assert!(rt; is_number(b"0", 0, 0));
-    assert!(rt; is_number(b"63", 63, 63));
-    assert!(rt; is_number(b"100000", 100_000, 100_000));
+fn numbers_are_plain_decimal_up_to_a_limit(rt: HostRuntime) {
+    for (row, (text, most, number)) in NUMBERS.iter().enumerate() {
+        assert!(rt; answer(text, *most) == *number, "row {row}");
+    }
 }

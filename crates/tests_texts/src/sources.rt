@@ -3,9 +3,8 @@
 //! Words of instructions are what LLVM's assembler (`llvm-mc` 14.0.6, `--arch=riscv32 --mattr=-c,-relax`) makes of them, with
 //! a distance in the place of a label. Distances and addresses are counted by hand.
 
-use crate::assembling::{
-    Form, check_parts, check_refusals, check_refused, file_of, has_words, length, refusal,
-};
+use crate::assembling::{Form, file_of, has_words, refusal};
+use crate::tables::{Case, Table, check_tables};
 use rv_asm::AsmKind;
 use std::alloc::{AllocError, Global};
 use std::test::Fail;
@@ -21,15 +20,6 @@ const EXIT_7: [u8; 128] = [
     0x00, 0x10, 0x01, 0x00, 0x00, 0x00, 0x00, 0x00, 0x00, 0x00, 0x00, 0x00, 0x06, 0x00, 0x00, 0x00,
     0x01, 0x00, 0x00, 0x00, 0x13, 0x05, 0x70, 0x00, 0x93, 0x08, 0x10, 0x00, 0x73, 0x00, 0x00, 0x00,
 ];
-
-#[test]
-fn three_instructions_are_a_file_of_128_bytes(rt: HostRuntime) -> Result<(), Fail> {
-    let whole = file_of(rt.alloc(), b"li a0, 7\nli a7, 1\necall\n")?;
-    assert!(rt; whole.as_slice() == EXIT_7.as_slice());
-    let unended = file_of(rt.alloc(), b"li a0, 7\nli a7, 1\necall")?;
-    assert!(rt; unended.as_slice() == EXIT_7.as_slice());
-    Ok(())
-}
 
 // The places of labels are counted by hand: text begins at 0x10000, and data at 0x11000 behind so little text.
 const LABELS: &[u8] = b"\
@@ -48,11 +38,6 @@ nop|call p|.data|p: .byte 1 => 00000013 7FD000EF 01\n\
 .data|.byte 2|.text|nop => 00000013 02\n\
 .text|.data|.data|.text|.text|nop => 00000013\n\
 ";
-
-#[test]
-fn labels_belong_to_the_part_before_the_switch(rt: HostRuntime) -> Result<(), Fail> {
-    check_parts(rt.alloc(), Form::Parts, LABELS)
-}
 
 // Each with what is refused and the number of its line.
 const REFUSALS: &[u8] = b"\
@@ -92,27 +77,6 @@ nop|.data|.byte 1|.text|.byte 1 => 5 Syntax\n\
 nop|.data|.text|.data|nop => 5 Syntax\n\
 ";
 
-#[test]
-fn the_first_refusal_is_told_and_those_of_lines_alone_before_others(
-    rt: HostRuntime,
-) -> Result<(), Fail> {
-    check_refusals(rt.alloc(), REFUSALS)
-}
-
-#[test]
-fn the_farthest_branches_and_jumps(rt: HostRuntime) -> Result<(), Fail> {
-    let alloc = rt.alloc();
-    let forth = b"beq a0, a1, a|{1022*nop|}a: nop|";
-    assert!(rt; has_words(alloc, forth, &[(116, 0x7EB5_0EE3)])?);
-    let back = b"a:{1024*nop|}beq a0, a1, a|";
-    assert!(rt; has_words(alloc, back, &[(4212, 0x80B5_0063)])?);
-    let to_data = b"{1023*nop|}beq a0, a1, a|.data|.space 4090|a:";
-    assert!(rt; has_words(alloc, to_data, &[(4208, 0x7EB5_0FE3)])?);
-    let jump = b"j a|.data|.space 1044478|a:";
-    assert!(rt; has_words(alloc, jump, &[(116, 0x7FFF_F06F)])?);
-    Ok(())
-}
-
 const TOO_FAR_OR_ODD: &[u8] = b"\
 beq a0, a1, a|{1023*nop|}a: nop| => 1 OutOfRange\n\
 a:{1025*nop|}beq a0, a1, a| => 1026 OutOfRange\n\
@@ -124,46 +88,123 @@ j a|.data|.space 1044479|a: => 1 OutOfRange\n\
 nop|call a|.data|.byte 1|a: => 2 OutOfRange\n\
 ";
 
-#[test]
-fn branches_and_jumps_that_are_too_far_or_odd(rt: HostRuntime) -> Result<(), Fail> {
-    check_refusals(rt.alloc(), TOO_FAR_OR_ODD)
-}
-
-// Whether the file of a row has a text of so many bytes, and three bytes of data behind it for this address.
-fn has_data_at(alloc: Global, row: &[u8], text: u32, address: u32) -> Result<bool, Fail> {
-    let words = [
-        (68, text),
-        (72, text),
-        (88, text.wrapping_add(116)),
-        (92, address),
-        (96, address),
-        (100, 3),
-        (104, 3),
-    ];
-    has_words(alloc, row, &words)
-}
-
-#[test]
-fn data_begin_at_the_next_page_behind_the_text(rt: HostRuntime) -> Result<(), Fail> {
-    let alloc = rt.alloc();
-    let row = b"{1*nop|}.data|.ascii \"abc\"";
-    assert!(rt; has_data_at(alloc, row, 4, 0x11000)?);
-    let row = b"{1023*nop|}.data|.ascii \"abc\"";
-    assert!(rt; has_data_at(alloc, row, 4092, 0x11000)?);
-    let row = b"{1024*nop|}.data|.ascii \"abc\"";
-    assert!(rt; has_data_at(alloc, row, 4096, 0x11000)?);
-    let row = b"{1025*nop|}.data|.ascii \"abc\"";
-    assert!(rt; has_data_at(alloc, row, 4100, 0x12000)?);
-    let row = b"{2049*nop|}.data|.ascii \"abc\"";
-    assert!(rt; has_data_at(alloc, row, 8196, 0x13000)?);
-    Ok(())
-}
-
-// Whether the file of a row has a text of one instruction and 1048576 bytes of data.
-fn is_full(alloc: Global, row: &[u8]) -> Result<bool, Fail> {
-    let has_length = length(alloc, row)? == 120 + 1_048_576;
-    Ok(has_words(alloc, row, &[(100, 1_048_576)])? && has_length)
-}
+// Each with the length of its file and words in it: the farthest branches and jumps; data at the next page behind the text; a
+// part of 1,048,576 bytes, which is the largest; and the longest text, in which a jump back to its beginning is not too far,
+// since a line has at most eight bytes.
+const PLACES: &[(&[u8], usize, &[(usize, u32)])] = &[
+    (
+        b"beq a0, a1, a|{1022*nop|}a: nop|",
+        4212,
+        &[(116, 0x7EB5_0EE3)],
+    ),
+    (b"a:{1024*nop|}beq a0, a1, a|", 4216, &[(4212, 0x80B5_0063)]),
+    (
+        b"{1023*nop|}beq a0, a1, a|.data|.space 4090|a:",
+        8302,
+        &[(4208, 0x7EB5_0FE3)],
+    ),
+    (
+        b"j a|.data|.space 1044478|a:",
+        1_044_598,
+        &[(116, 0x7FFF_F06F)],
+    ),
+    (
+        b"{1*nop|}.data|.ascii \"abc\"",
+        123,
+        &[
+            (68, 4),
+            (72, 4),
+            (88, 120),
+            (92, 0x11000),
+            (96, 0x11000),
+            (100, 3),
+            (104, 3),
+        ],
+    ),
+    (
+        b"{1023*nop|}.data|.ascii \"abc\"",
+        4211,
+        &[
+            (68, 4092),
+            (72, 4092),
+            (88, 4208),
+            (92, 0x11000),
+            (96, 0x11000),
+            (100, 3),
+            (104, 3),
+        ],
+    ),
+    (
+        b"{1024*nop|}.data|.ascii \"abc\"",
+        4215,
+        &[
+            (68, 4096),
+            (72, 4096),
+            (88, 4212),
+            (92, 0x11000),
+            (96, 0x11000),
+            (100, 3),
+            (104, 3),
+        ],
+    ),
+    (
+        b"{1025*nop|}.data|.ascii \"abc\"",
+        4219,
+        &[
+            (68, 4100),
+            (72, 4100),
+            (88, 4216),
+            (92, 0x12000),
+            (96, 0x12000),
+            (100, 3),
+            (104, 3),
+        ],
+    ),
+    (
+        b"{2049*nop|}.data|.ascii \"abc\"",
+        8315,
+        &[
+            (68, 8196),
+            (72, 8196),
+            (88, 8312),
+            (92, 0x13000),
+            (96, 0x13000),
+            (100, 3),
+            (104, 3),
+        ],
+    ),
+    (b"nop|.data|.space 1048576|", 1_048_696, &[(100, 1_048_576)]),
+    (
+        b"nop|.data|.space 1048575|.byte 1|",
+        1_048_696,
+        &[(100, 1_048_576)],
+    ),
+    (
+        b"nop|.data|.space 1048572|.word 1|",
+        1_048_696,
+        &[(100, 1_048_576)],
+    ),
+    (
+        b"nop|.data|.space 1048570|.ascii \"abcdef\"|",
+        1_048_696,
+        &[(100, 1_048_576)],
+    ),
+    (
+        b"nop|.data|.space 1044481|.align 12|",
+        1_048_696,
+        &[(100, 1_048_576)],
+    ),
+    (
+        b"nop|.data|.space 1048576|.space 0|.align 12|.ascii \"\"|a:|",
+        1_048_696,
+        &[(100, 1_048_576)],
+    ),
+    (
+        b"a:{99998*li a0, 4096|}j a|nop",
+        800_108,
+        &[(800_100, 0xB113_C06F)],
+    ),
+];
 
 const PASSING: &[u8] = b"\
 .space 1048576|.byte 1|.byte 2\n\
@@ -172,18 +213,9 @@ const PASSING: &[u8] = b"\
 .byte 1|.space 1048576\n\
 ";
 
-#[test]
-fn a_part_of_1048576_bytes_is_the_largest(rt: HostRuntime) -> Result<(), Fail> {
-    let alloc = rt.alloc();
-    assert!(rt; is_full(alloc, b"nop|.data|.space 1048576|")?);
-    assert!(rt; is_full(alloc, b"nop|.data|.space 1048575|.byte 1|")?);
-    assert!(rt; is_full(alloc, b"nop|.data|.space 1048572|.word 1|")?);
-    assert!(rt; is_full(alloc, b"nop|.data|.space 1048570|.ascii \"abcdef\"|")?);
-    assert!(rt; is_full(alloc, b"nop|.data|.space 1044481|.align 12|")?);
-    let nothing = b"nop|.data|.space 1048576|.space 0|.align 12|.ascii \"\"|a:|";
-    assert!(rt; is_full(alloc, nothing)?);
-    check_refused(alloc, b"nop\n.data\n", PASSING, AsmKind::OutOfRange, 4)
-}
+const MOST_LINES: &[u8] = b"\
+a: nop|{99999*|} => 00000013\n\
+";
 
 const TOO_MANY_LINES: &[u8] = b"\
 a: nop|{100000*|} => 100001 TooLong\n\
@@ -194,21 +226,6 @@ a: nop|{99998*|}NOP|| => 100000 Syntax\n\
 a: nop|{99998*|}a:|| => 100000 DoubleLabel\n\
 {100000*|} => 100001 Syntax\n\
 ";
-
-#[test]
-fn a_source_of_100000_lines_is_the_longest(rt: HostRuntime) -> Result<(), Fail> {
-    check_parts(rt.alloc(), Form::Parts, b"a: nop|{99999*|} => 00000013")?;
-    check_refusals(rt.alloc(), TOO_MANY_LINES)
-}
-
-// No text is longer, since a line has at most eight bytes: so no jump back is too far.
-#[test]
-fn the_longest_text_has_a_jump_to_its_beginning(rt: HostRuntime) -> Result<(), Fail> {
-    let row = b"a:{99998*li a0, 4096|}j a|nop";
-    assert_eq!(rt; length(rt.alloc(), row)?, 116 + 799_992);
-    assert!(rt; has_words(rt.alloc(), row, &[(116 + 799_984, 0xB113_C06F)])?);
-    Ok(())
-}
 
 const LONGEST_LINES: &[u8] = b"\
 nop#{1020*c} => 00000013\n\
@@ -224,12 +241,6 @@ j b|nop#{1021*c} => 2 TooLong\n\
 a: nop|a: nop#{1018*c}|NOP => 2 TooLong\n\
 nop|1: nop#{1018*c} => 2 TooLong\n\
 ";
-
-#[test]
-fn a_line_of_1024_bytes_is_the_longest(rt: HostRuntime) -> Result<(), Fail> {
-    check_parts(rt.alloc(), Form::Parts, LONGEST_LINES)?;
-    check_refusals(rt.alloc(), TOO_LONG_LINES)
-}
 
 // Whether a source is assembled with a byte between two texts.
 fn is_accepted_with(
@@ -272,8 +283,36 @@ fn stands_where_it_may(alloc: Global, byte: u8) -> Result<bool, AllocError> {
     Ok(found == expected)
 }
 
+const TABLES: &[Table] = &[
+    (Case::Parts(Form::Parts), LABELS),
+    (Case::Refusal, REFUSALS),
+    (Case::Refusal, TOO_FAR_OR_ODD),
+    (
+        Case::Refused(b"nop\n.data\n", AsmKind::OutOfRange, 4),
+        PASSING,
+    ),
+    (Case::Parts(Form::Parts), MOST_LINES),
+    (Case::Refusal, TOO_MANY_LINES),
+    (Case::Parts(Form::Parts), LONGEST_LINES),
+    (Case::Refusal, TOO_LONG_LINES),
+];
+
 #[test]
-fn where_each_byte_may_stand(rt: HostRuntime) -> Result<(), Fail> {
+fn sources_become_their_parts_or_are_refused(rt: HostRuntime) -> Result<(), Fail> {
+    check_tables(rt.alloc(), TABLES)
+}
+
+#[test]
+fn files_have_their_words_and_bytes_their_places(rt: HostRuntime) -> Result<(), Fail> {
+    for source in [
+        b"li a0, 7\nli a7, 1\necall\n".as_slice(),
+        b"li a0, 7\nli a7, 1\necall",
+    ] {
+        assert!(rt; file_of(rt.alloc(), source)?.as_slice() == EXIT_7.as_slice());
+    }
+    for (row, length, words) in PLACES {
+        assert!(rt; has_words(rt.alloc(), row, *length, words)?, "{length}");
+    }
     for byte in 0..=255u8 {
         assert!(rt; stands_where_it_may(rt.alloc(), byte)?, "{byte}");
     }

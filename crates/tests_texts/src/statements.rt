@@ -5,7 +5,8 @@
 //! (`riscv64-unknown-elf-as` 2.40, `-march=rv32i -mno-relax`, linked at 0x10000) makes the same words but for `call`, which
 //! is two instructions there, `la`, which counts from the instruction there, and `li` where one instruction is enough there.
 
-use crate::assembling::{Form, check_parts, check_refused};
+use crate::assembling::Form;
+use crate::tables::{Case, Table, check_tables};
 use rv_asm::AsmKind;
 use std::test::Fail;
 
@@ -32,15 +33,6 @@ sw x5,31(x6) => 00532FA3\n\
 sb s9, -33(s10) => FD9D0FA3\n\
 lui a0, -0 => 00000537\n\
 ";
-
-#[test]
-fn words_of_upper_parts_loads_and_stores(rt: HostRuntime) -> Result<(), Fail> {
-    check_parts(
-        rt.alloc(),
-        Form::Parts,
-        WORDS_OF_UPPER_PARTS_LOADS_AND_STORES,
-    )
-}
 
 const WORDS_OF_OPERATIONS: &[u8] = b"\
 addi a0, a0, -1 => FFF50513\n\
@@ -73,11 +65,6 @@ slli a0, a0, -0 => 00051513\n\
 sltiu a0, a0, 0xa => 00A53513\n\
 ";
 
-#[test]
-fn words_of_operations(rt: HostRuntime) -> Result<(), Fail> {
-    check_parts(rt.alloc(), Form::Parts, WORDS_OF_OPERATIONS)
-}
-
 const WORDS_OF_SYSTEM_INSTRUCTIONS_AND_SHORT_FORMS: &[u8] = b"\
 fence => 0FF0000F\n\
 ecall => 00000073\n\
@@ -93,15 +80,6 @@ li a0, -2048 => 80000513\n\
 li t6, 0x7FF => 7FF00F93\n\
 ";
 
-#[test]
-fn words_of_system_instructions_and_short_forms(rt: HostRuntime) -> Result<(), Fail> {
-    check_parts(
-        rt.alloc(),
-        Form::Parts,
-        WORDS_OF_SYSTEM_INSTRUCTIONS_AND_SHORT_FORMS,
-    )
-}
-
 const BLANKS_COMMENTS_AND_LABELS_AROUND_A_STATEMENT: &[u8] = b"\
 \x20 nop => 00000013\n\
 \tnop\t => 00000013\n\
@@ -114,15 +92,6 @@ loop:nop => 00000013\n\
 # only: a comment|nop => 00000013\n\
 \x20loop:\t nop # : => 00000013\n\
 ";
-
-#[test]
-fn blanks_comments_and_labels_around_a_statement(rt: HostRuntime) -> Result<(), Fail> {
-    check_parts(
-        rt.alloc(),
-        Form::Parts,
-        BLANKS_COMMENTS_AND_LABELS_AROUND_A_STATEMENT,
-    )
-}
 
 const REGISTERS_BY_NUMBER_AND_BY_NAME: &[u8] = b"\
 mv x0, zero => 00000013\n\
@@ -159,11 +128,6 @@ mv x30, t5 => 000F0F13\n\
 mv x31, t6 => 000F8F93\n\
 ";
 
-#[test]
-fn registers_by_number_and_by_name(rt: HostRuntime) -> Result<(), Fail> {
-    check_parts(rt.alloc(), Form::Parts, REGISTERS_BY_NUMBER_AND_BY_NAME)
-}
-
 // `call` is read there as `jal ra`. A label that has the name of a register is another name there.
 const WORDS_OF_JUMPS_AND_BRANCHES: &[u8] = b"\
 a: j a => 0000006F\n\
@@ -189,11 +153,6 @@ j _x9|_x9:nop => 0040006F 00000013\n\
 j nnnnnnnnnnnnnnnnnnnnnnnnnnnnnnnnnnnnnnnnnnnnnnnnnnnnnnnnnnnnnnnn|nnnnnnnnnnnnnnnnnnnnnnnnnnnnnnnnnnnnnnnnnnnnnnnnnnnnnnnnnnnnnnnn: nop => 0040006F 00000013\n\
 ";
 
-#[test]
-fn words_of_jumps_and_branches(rt: HostRuntime) -> Result<(), Fail> {
-    check_parts(rt.alloc(), Form::Parts, WORDS_OF_JUMPS_AND_BRANCHES)
-}
-
 // The lui and addi of each `li` and `la` are worked out by hand, since LLVM leaves one away where it is not needed: lui has
 // the upper twenty bits of the number plus 0x800, and addi what is lacking. LLVM gives their words.
 const NUMBERS_AND_ADDRESSES_IN_TWO_INSTRUCTIONS: &[u8] = b"\
@@ -217,15 +176,6 @@ nop|c: nop|la a0, c => 00000013 00000013 00010537 00450513\n\
 li a0, 4096|j a|a: nop => 00001537 00050513 0040006F 00000013\n\
 la a0, a|beq a0, a1, a|a: nop => 00010537 00C50513 00B50263 00000013\n\
 ";
-
-#[test]
-fn numbers_and_addresses_in_two_instructions(rt: HostRuntime) -> Result<(), Fail> {
-    check_parts(
-        rt.alloc(),
-        Form::Parts,
-        NUMBERS_AND_ADDRESSES_IN_TWO_INSTRUCTIONS,
-    )
-}
 
 const BYTES_OF_NUMBERS_AND_ZEROS: &[u8] = b"\
 .word 0xdeadBEEF => EF BE AD DE\n\
@@ -256,11 +206,6 @@ x:|y: .byte 1|X: # c => 01\n\
 .byte -1|.byte 1|.byte 0xfF => FF 01 FF\n\
 ";
 
-#[test]
-fn bytes_of_numbers_and_zeros(rt: HostRuntime) -> Result<(), Fail> {
-    check_parts(rt.alloc(), Form::Bytes, BYTES_OF_NUMBERS_AND_ZEROS)
-}
-
 const BYTES_OF_TEXT_BETWEEN_QUOTES: &[u8] = b"\
 .ascii \"\" => \n\
 .ascii \"a\" => a\n\
@@ -277,11 +222,6 @@ t: .ascii \"a: b\"  => a: b\n\
 .ascii \"\\\\n\" => \\n\n\
 .ascii \"'(),:;\" => '(),:;\n\
 ";
-
-#[test]
-fn bytes_of_text_between_quotes(rt: HostRuntime) -> Result<(), Fail> {
-    check_parts(rt.alloc(), Form::Text, BYTES_OF_TEXT_BETWEEN_QUOTES)
-}
 
 const WORDS_AND_REGISTERS_OF_NO_FORM_IN_THE_TEXT: &[u8] = b"\
 NOP\n\
@@ -318,17 +258,6 @@ add x-1, a1, a2\n\
 add 1, a1, a2\n\
 ";
 
-#[test]
-fn words_and_registers_of_no_form_in_the_text(rt: HostRuntime) -> Result<(), Fail> {
-    check_refused(
-        rt.alloc(),
-        b"a: nop\n",
-        WORDS_AND_REGISTERS_OF_NO_FORM_IN_THE_TEXT,
-        AsmKind::Syntax,
-        2,
-    )
-}
-
 const NUMBERS_OF_NO_FORM_IN_THE_TEXT: &[u8] = b"\
 addi a0, a0\n\
 addi a0, a0,\n\
@@ -351,17 +280,6 @@ addi a0, a0, 'a'\n\
 addi a0, a0, 1 2\n\
 addi a0, a0, 1+1\n\
 ";
-
-#[test]
-fn numbers_of_no_form_in_the_text(rt: HostRuntime) -> Result<(), Fail> {
-    check_refused(
-        rt.alloc(),
-        b"a: nop\n",
-        NUMBERS_OF_NO_FORM_IN_THE_TEXT,
-        AsmKind::Syntax,
-        2,
-    )
-}
 
 const PLACES_AND_TARGETS_OF_NO_FORM_IN_THE_TEXT: &[u8] = b"\
 lw a0, (sp)\n\
@@ -403,17 +321,6 @@ beqz a0, a1, a\n\
 bnez a0\n\
 ";
 
-#[test]
-fn places_and_targets_of_no_form_in_the_text(rt: HostRuntime) -> Result<(), Fail> {
-    check_refused(
-        rt.alloc(),
-        b"a: nop\n",
-        PLACES_AND_TARGETS_OF_NO_FORM_IN_THE_TEXT,
-        AsmKind::Syntax,
-        2,
-    )
-}
-
 const SHORT_FORMS_AND_INSTRUCTIONS_OF_NO_FORM_IN_THE_TEXT: &[u8] = b"\
 li a0\n\
 li a0, a\n\
@@ -441,17 +348,6 @@ bgt a0, a1, a\n\
 subi a0, a0, 1\n\
 csrr a0, time\n\
 ";
-
-#[test]
-fn short_forms_and_instructions_of_no_form_in_the_text(rt: HostRuntime) -> Result<(), Fail> {
-    check_refused(
-        rt.alloc(),
-        b"a: nop\n",
-        SHORT_FORMS_AND_INSTRUCTIONS_OF_NO_FORM_IN_THE_TEXT,
-        AsmKind::Syntax,
-        2,
-    )
-}
 
 const BYTES_DIRECTIVES_AND_LABELS_OF_NO_FORM_IN_THE_TEXT: &[u8] = b"\
 nop\r\n\
@@ -488,17 +384,6 @@ b :\n\
 nnnnnnnnnnnnnnnnnnnnnnnnnnnnnnnnnnnnnnnnnnnnnnnnnnnnnnnnnnnnnnnnn: nop\n\
 b: NOP\n\
 ";
-
-#[test]
-fn bytes_directives_and_labels_of_no_form_in_the_text(rt: HostRuntime) -> Result<(), Fail> {
-    check_refused(
-        rt.alloc(),
-        b"a: nop\n",
-        BYTES_DIRECTIVES_AND_LABELS_OF_NO_FORM_IN_THE_TEXT,
-        AsmKind::Syntax,
-        2,
-    )
-}
 
 const LINES_OF_NO_FORM_IN_THE_DATA: &[u8] = b"\
 nop\n\
@@ -558,17 +443,6 @@ b: .word\n\
 1b: .word 1\n\
 ";
 
-#[test]
-fn lines_of_no_form_in_the_data(rt: HostRuntime) -> Result<(), Fail> {
-    check_refused(
-        rt.alloc(),
-        b"a: nop\n.data\n",
-        LINES_OF_NO_FORM_IN_THE_DATA,
-        AsmKind::Syntax,
-        3,
-    )
-}
-
 const NUMBERS_THAT_DO_NOT_FIT_IN_TEXT: &[u8] = b"\
 addi a0, a0, 2048\n\
 addi a0, a0, -2049\n\
@@ -618,24 +492,6 @@ const NUMBERS_THAT_DO_NOT_FIT_IN_DATA: &[u8] = b"\
 .align 4294967296\n\
 ";
 
-#[test]
-fn numbers_that_do_not_fit(rt: HostRuntime) -> Result<(), Fail> {
-    check_refused(
-        rt.alloc(),
-        b"a: nop\n",
-        NUMBERS_THAT_DO_NOT_FIT_IN_TEXT,
-        AsmKind::OutOfRange,
-        2,
-    )?;
-    check_refused(
-        rt.alloc(),
-        b"a: nop\n.data\n",
-        NUMBERS_THAT_DO_NOT_FIT_IN_DATA,
-        AsmKind::OutOfRange,
-        3,
-    )
-}
-
 const LABELS_THAT_NO_LINE_HAS: &[u8] = b"\
 j b\n\
 jal ra, b\n\
@@ -648,13 +504,67 @@ j A\n\
 j aa\n\
 ";
 
-#[test]
-fn labels_that_no_line_has(rt: HostRuntime) -> Result<(), Fail> {
-    check_refused(
-        rt.alloc(),
-        b"a: nop\n",
+const TABLES: &[Table] = &[
+    (
+        Case::Parts(Form::Parts),
+        WORDS_OF_UPPER_PARTS_LOADS_AND_STORES,
+    ),
+    (Case::Parts(Form::Parts), WORDS_OF_OPERATIONS),
+    (
+        Case::Parts(Form::Parts),
+        WORDS_OF_SYSTEM_INSTRUCTIONS_AND_SHORT_FORMS,
+    ),
+    (
+        Case::Parts(Form::Parts),
+        BLANKS_COMMENTS_AND_LABELS_AROUND_A_STATEMENT,
+    ),
+    (Case::Parts(Form::Parts), REGISTERS_BY_NUMBER_AND_BY_NAME),
+    (Case::Parts(Form::Parts), WORDS_OF_JUMPS_AND_BRANCHES),
+    (
+        Case::Parts(Form::Parts),
+        NUMBERS_AND_ADDRESSES_IN_TWO_INSTRUCTIONS,
+    ),
+    (Case::Parts(Form::Bytes), BYTES_OF_NUMBERS_AND_ZEROS),
+    (Case::Parts(Form::Text), BYTES_OF_TEXT_BETWEEN_QUOTES),
+    (
+        Case::Refused(b"a: nop\n", AsmKind::Syntax, 2),
+        WORDS_AND_REGISTERS_OF_NO_FORM_IN_THE_TEXT,
+    ),
+    (
+        Case::Refused(b"a: nop\n", AsmKind::Syntax, 2),
+        NUMBERS_OF_NO_FORM_IN_THE_TEXT,
+    ),
+    (
+        Case::Refused(b"a: nop\n", AsmKind::Syntax, 2),
+        PLACES_AND_TARGETS_OF_NO_FORM_IN_THE_TEXT,
+    ),
+    (
+        Case::Refused(b"a: nop\n", AsmKind::Syntax, 2),
+        SHORT_FORMS_AND_INSTRUCTIONS_OF_NO_FORM_IN_THE_TEXT,
+    ),
+    (
+        Case::Refused(b"a: nop\n", AsmKind::Syntax, 2),
+        BYTES_DIRECTIVES_AND_LABELS_OF_NO_FORM_IN_THE_TEXT,
+    ),
+    (
+        Case::Refused(b"a: nop\n.data\n", AsmKind::Syntax, 3),
+        LINES_OF_NO_FORM_IN_THE_DATA,
+    ),
+    (
+        Case::Refused(b"a: nop\n", AsmKind::OutOfRange, 2),
+        NUMBERS_THAT_DO_NOT_FIT_IN_TEXT,
+    ),
+    (
+        Case::Refused(b"a: nop\n.data\n", AsmKind::OutOfRange, 3),
+        NUMBERS_THAT_DO_NOT_FIT_IN_DATA,
+    ),
+    (
+        Case::Refused(b"a: nop\n", AsmKind::UnknownLabel, 2),
         LABELS_THAT_NO_LINE_HAS,
-        AsmKind::UnknownLabel,
-        2,
-    )
+    ),
+];
+
+#[test]
+fn statements_become_their_parts_or_are_refused(rt: HostRuntime) -> Result<(), Fail> {
+    check_tables(rt.alloc(), TABLES)
 }
