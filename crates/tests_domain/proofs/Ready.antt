@@ -162,6 +162,7 @@ buffered k0 k1 root start bytes is wrote =
         record {
           page = wrote.page;
           live = ap (λ (d : Domain). d.live) there ∙ ap (λ (d : Domain). d.live) is.domain;
+          whole = ap (λ (d : Domain). d.whole) there ∙ ap (λ (d : Domain). d.whole) is.domain;
           held = ap (λ (d : Domain). d.buffer) there;
           is = subst (λ k. IsBuffer k wrote.page) (sym wrote.writes) (record { inside = wrote.takes.buffer.inside; entry = wrote.takes.buffer.entry });
           shares = subst (λ k. Shares k nothing_outside []) (sym wrote.writes) (let s = wrote.takes.shares nothing_outside [] is.shares in record { of_pages = s.of_pages; of_nodes = s.of_nodes });

@@ -45,6 +45,7 @@ pub record IsDead (kernel : Kernel) (root : ℕ) : Type 0 where
 pub record IsBuffered (kernel : Kernel) (root : ℕ) : Type 0 where
   pub page : ℕ
   pub live : (at (domains kernel) root).live ≡ true
+  pub whole : (at (domains kernel) root).whole ≡ true
   pub held : (at (domains kernel) root).buffer ≡ Some page
   pub is : IsBuffer kernel page
   pub shares : Shares kernel nothing_outside []

@@ -5,7 +5,9 @@ ghost use Rattle.kn_base.specs.Memory.{Memory, zero_memory};
 ghost use Rattle.kernel_tables.specs.Kernel.{Kernel, kernel_of, first_page, node_count};
 ghost use Rattle.kernel_tables.specs.Rows.{domain_rows};
 ghost use Rattle.space_bank.specs.Bank.{BankGood};
+ghost use Rattle.unix_model.specs.Tables.{at};
 ghost use Rattle.domain.specs.Rules.{RowsGood};
+ghost use Rattle.domain.specs.Domains.{domains};
 ghost use Rattle.tests_domain.specs.First.{IsBuffered};
 
 use super::first::first_domain;
@@ -18,6 +20,8 @@ pub fn buffered_domain<T: Store>(store: &mut T, bytes: &[u8]) -> NodeId
     requires some { length bytes.now ≢ 0 }
     requires few { 7 + length bytes.now ≤ 4096 }
     ensures buffered { IsBuffered (kernel_of (T.memory store.new)) result.0 }
+    ensures live { (at (domains (kernel_of (T.memory store.new))) result.0).live ≡ true }
+    ensures whole { (at (domains (kernel_of (T.memory store.new))) result.0).whole ≡ true }
     ensures rows { RowsGood (domain_rows (kernel_of (T.memory store.new))) }
     ensures good { BankGood (kernel_of (T.memory store.new)) }
     ensures keeps { T.keeps store.old store.new }

@@ -9,8 +9,7 @@ ghost use Rattle.tests_domain.specs.First.{IsReadable};
 
 use super::checked::{key_there, keys_in_range, looks_damaged, looks_right, node_number};
 use super::first::{SLOT, first_domain};
-use super::setting::set_running;
-use super::values::{some_heads, some_regs};
+use super::steps::{Step, Words, set_each};
 use kernel_tables::first_bank_page;
 use kn_base::{Key, NodeId, Store};
 use obj_store::{NoMemory, RamStore};
@@ -25,15 +24,23 @@ struct Running {
     root: NodeId,
 }
 
+// What is set of it.
+const RUNNING: [Step; 4] = [
+    Step::Heads(0),
+    Step::Words(Words::Registers),
+    Step::Words(Words::Open(31, 2047)),
+    Step::Words(Words::Open(0, 0)),
+];
+
 #[tactic(auto, unfolding(kernel_tables::specs::Kernel::first_page))]
-fn machine_that_runs(alloc: Global) -> Result<Running, Fail>
+fn machine_that_runs(rt: &impl Abort, alloc: Global) -> Result<Running, Fail>
     ensures { IfOk result (λ f. IsReadable (kernel_of (ram_memory f.store))) }
 {
     let all_pages = first_bank_page(64) + 64;
     match RamStore::new(alloc, all_pages, 1552) {
         Ok(mut store) => {
             let root = first_domain(&mut store);
-            set_running(&mut store, root, some_heads(0), &some_regs());
+            set_each(rt, &mut store, root, &RUNNING);
             Ok(Running { store, root })
         }
         Err(NoMemory) => Err(Fail::from(NoMemory)),
@@ -102,7 +109,7 @@ fn damage_key<T: Store>(rt: &impl Abort, store: &mut T, which: Node, node: NodeI
     for byte in 0..16 {
         match looks_damaged(store, SLOT, node, place, byte) {
             Some(right) => {
-                assert_eq!(rt; right, may_change(which, place, byte));
+                assert!(rt; right == may_change(which, place, byte));
                 looked = looked.wrapping_add(1);
             }
             None => {}
@@ -142,15 +149,15 @@ fn node_of<T: Store>(rt: &impl Abort, store: &T, root: NodeId, place: u8) -> Nod
 
 #[test]
 fn a_domain_and_a_free_slot_are_right(rt: HostRuntime) -> Result<(), Fail> {
-    let Running { store, .. } = machine_that_runs(rt.alloc())?;
-    assert_eq!(rt; looks_right(&store, SLOT), Some(true));
-    assert_eq!(rt; looks_right(&store, SLOT + 1), Some(true));
+    let Running { store, .. } = machine_that_runs(&rt, rt.alloc())?;
+    assert!(rt; looks_right(&store, SLOT) == Some(true));
+    assert!(rt; looks_right(&store, SLOT + 1) == Some(true));
     Ok(())
 }
 
 #[test]
 fn a_damaged_root_is_found(rt: HostRuntime) -> Result<(), Fail> {
-    let Running { mut store, root } = machine_that_runs(rt.alloc())?;
+    let Running { mut store, root } = machine_that_runs(&rt, rt.alloc())?;
     assert!(rt; root.0 < node_number(&store));
     assert!(rt; damage_node(&rt, &mut store, Node::Root, root) >= 84);
     Ok(())
@@ -158,7 +165,7 @@ fn a_damaged_root_is_found(rt: HostRuntime) -> Result<(), Fail> {
 
 #[test]
 fn damaged_registers_are_found(rt: HostRuntime) -> Result<(), Fail> {
-    let Running { mut store, root } = machine_that_runs(rt.alloc())?;
+    let Running { mut store, root } = machine_that_runs(&rt, rt.alloc())?;
     let node = node_of(&rt, &store, root, 3);
     assert!(rt; damage_node(&rt, &mut store, Node::Registers, node) >= 132);
     Ok(())
@@ -166,7 +173,7 @@ fn damaged_registers_are_found(rt: HostRuntime) -> Result<(), Fail> {
 
 #[test]
 fn damaged_descriptors_are_found(rt: HostRuntime) -> Result<(), Fail> {
-    let Running { mut store, root } = machine_that_runs(rt.alloc())?;
+    let Running { mut store, root } = machine_that_runs(&rt, rt.alloc())?;
     let node = node_of(&rt, &store, root, 4);
     assert!(rt; damage_node(&rt, &mut store, Node::Descriptors, node) >= 132);
     Ok(())

@@ -14,7 +14,8 @@ ghost use Rattle.tests_domain.specs.First.{IsDead};
 use super::checked::looks_right;
 use super::dying::{dead_domain, drop_dead};
 use super::first::SLOT;
-use domain::{Phase, State, descriptor, phase_of, regs_of, root_of, set_state, space_of, state_of};
+use super::reading::{Fields, fields_of};
+use domain::{Phase, State, root_of, set_state};
 use kernel_tables::first_bank_page;
 use kn_base::NodeId;
 use obj_store::{NoMemory, RamStore};
@@ -49,25 +50,27 @@ fn machine_with_zombie(alloc: Global) -> Result<Dead, Fail>
 #[test]
 fn a_zombie_reads_as_zeros_and_none(rt: HostRuntime) -> Result<(), Fail> {
     let Dead { store, root } = machine_with_zombie(rt.alloc())?;
-    assert_eq!(rt; root_of(&store, SLOT), Some(root));
-    assert_eq!(rt; phase_of(&store, root), Phase::Zombie);
-    assert_eq!(rt; state_of(&store, root), State::Running);
-    assert_eq!(rt; space_of(&store, root), None);
-    let regs = regs_of(&store, root);
-    assert_eq!(rt; regs.x, [0; 32]);
-    assert_eq!(rt; regs.pc, 0);
-    for number in 0..32 {
-        assert_eq!(rt; descriptor(&store, root, number), None);
-    }
+    let fields = fields_of(&store, root);
+    let want = Fields {
+        named: Some(root),
+        phase: Phase::Zombie,
+        state: State::Running,
+        space: None,
+        x: [0; 32],
+        pc: 0,
+        descriptors: [None; 32],
+        ..fields
+    };
+    assert!(rt; fields == want);
     Ok(())
 }
 
 #[test]
 fn a_zombie_is_right_where_it_may_be_called(rt: HostRuntime) -> Result<(), Fail> {
     let Dead { mut store, root } = machine_with_zombie(rt.alloc())?;
-    assert_eq!(rt; looks_right(&store, SLOT), Some(false));
+    assert!(rt; looks_right(&store, SLOT) == Some(false));
     set_state(&mut store, root, State::Available, 0);
-    assert_eq!(rt; looks_right(&store, SLOT), Some(true));
+    assert!(rt; looks_right(&store, SLOT) == Some(true));
     Ok(())
 }
 
@@ -75,6 +78,6 @@ fn a_zombie_is_right_where_it_may_be_called(rt: HostRuntime) -> Result<(), Fail>
 fn a_dropped_zombie_leaves_its_slot_free(rt: HostRuntime) -> Result<(), Fail> {
     let Dead { mut store, root } = machine_with_zombie(rt.alloc())?;
     drop_dead(&mut store, root);
-    assert_eq!(rt; root_of(&store, SLOT), None);
+    assert!(rt; root_of(&store, SLOT) == None);
     Ok(())
 }

@@ -16,10 +16,14 @@ mod fields;
 mod first;
 #[cfg(test)]
 mod held;
+#[cfg(test)]
+mod reading;
 mod services;
 #[cfg(test)]
 mod serving;
 mod setting;
+#[cfg(test)]
+mod steps;
 #[cfg(test)]
 mod values;
 #[cfg(test)]
@@ -32,4 +36,4 @@ pub use checked::{
 pub use dying::{dead_domain, drop_dead};
 pub use first::{SLOT, first_domain};
 pub use services::{DIRECTORIES, PIPES, running_service};
-pub use setting::{make_request, other_space, set_all, set_running, set_waiting, ten_phases};
+pub use setting::{make_request, other_space, ten_phases};

@@ -12,6 +12,7 @@ ghost use Rattle.domain.specs.Lives.{HasLife};
 use super::services::{DIRECTORIES, PIPES, running_service};
 use domain::{State, count_of, set_state, state_of};
 use kernel_tables::first_bank_page;
+use kn_base::{NodeId, Store};
 use obj_store::{NoMemory, RamStore};
 use std::alloc::Global;
 use std::test::Fail;
@@ -34,15 +35,20 @@ fn machine_with_service(alloc: Global) -> Result<RamStore, Fail>
     }
 }
 
+// Whether the life of a service is so.
+fn has_life<T: Store>(store: &T, service: NodeId, state: State, count: u64) -> bool
+    requires alive { HasLife (kernel_of (T.memory store.now)) service.0 }
+    requires good { BankGood (kernel_of (T.memory store.now)) }
+{
+    state_of(store, service) == state && count_of(store, service) == count
+}
+
 #[test]
 fn the_state_of_a_service_is_set_alone(rt: HostRuntime) -> Result<(), Fail> {
     let mut store = machine_with_service(rt.alloc())?;
-    assert_eq!(rt; state_of(&store, DIRECTORIES), State::Running);
-    assert_eq!(rt; count_of(&store, DIRECTORIES), u64::MAX);
-    assert_eq!(rt; state_of(&store, PIPES), State::Available);
-    assert_eq!(rt; count_of(&store, PIPES), 0);
+    assert!(rt; has_life(&store, DIRECTORIES, State::Running, u64::MAX));
+    assert!(rt; has_life(&store, PIPES, State::Available, 0));
     set_state(&mut store, DIRECTORIES, State::Available, 0);
-    assert_eq!(rt; state_of(&store, DIRECTORIES), State::Available);
-    assert_eq!(rt; count_of(&store, DIRECTORIES), 0);
+    assert!(rt; has_life(&store, DIRECTORIES, State::Available, 0));
     Ok(())
 }

@@ -20,6 +20,14 @@ pub fn some_regs() -> Regs
     Regs { x, pc: 0x8000_0004 }
 }
 
+/// Registers of zeros, and pc 8.
+pub fn no_regs() -> Regs
+    ensures zero { register_word result 0 ≡ 0 }
+    ensures aligned { result.pc % 4 ≡ 0 }
+{
+    Regs { x: [0; 32], pc: 8 }
+}
+
 /// Heads with a word that a wait answers.
 #[tactic(auto, unfolding(unix_model::specs::Limits::loads_end))]
 pub fn some_heads(word: u32) -> Heads

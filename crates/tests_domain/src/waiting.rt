@@ -1,6 +1,6 @@
 //! Domains that wait are looked at, each key by itself in its phase, and the place of the resume room.
 
-ghost use Rattle.std.specs.Prelude.{◌≡◌, ℕ, ◌<◌, ◌≤◌, ◌*◌, IfOk, length};
+ghost use Rattle.std.specs.Prelude.{◌≡◌, ℕ, ◌<◌, ◌*◌, IfOk, length};
 ghost use Rattle.kn_base.specs.Memory.{Memory};
 ghost use Rattle.kernel_tables.specs.Kernel.{Kernel, kernel_of, first_page, node_count, Sized, IsSized};
 ghost use Rattle.domain.specs.Checks.{KeyInRange, KeysInRange};
@@ -10,8 +10,8 @@ ghost use Rattle.tests_domain.specs.First.{IsReadable};
 use super::buffers::buffered_domain;
 use super::checked::{keys_in_range, looks_right, looks_with, node_number, put_low};
 use super::first::SLOT;
-use super::setting::set_waiting;
-use domain::{Answer, Phase};
+use super::steps::{Step, Turn, set_each};
+use domain::{Answer, Phase, State};
 use kernel_tables::first_bank_page;
 use kn_base::{Key, NodeId, PageId, Store};
 use obj_store::{NoMemory, RamStore};
@@ -32,20 +32,24 @@ struct Waiting {
 
 #[tactic(auto, unfolding(kernel_tables::specs::Kernel::first_page))]
 fn machine_that_waits(
+    rt: &impl Abort,
     alloc: Global,
     request: Request,
-    answer: Answer,
     phase: Phase,
 ) -> Result<Waiting, Fail>
-    requires request { request.length ≤ 4096 }
-    requires answer { answer.length ≤ 4096 }
     ensures { IfOk result (λ f. IsReadable (kernel_of (ram_memory f.store))) }
 {
     let all_pages = first_bank_page(64) + 64;
     match RamStore::new(alloc, all_pages, 1552) {
         Ok(mut store) => {
             let root = buffered_domain(&mut store, &[1, 2, 3, 4]);
-            set_waiting(&mut store, root, request, answer, phase, u64::MAX);
+            let steps = [
+                Step::Request(request),
+                Step::Answer(NO_ANSWER),
+                Step::Turn(Turn::Phase(phase)),
+                Step::Turn(Turn::State(State::Waiting, u64::MAX)),
+            ];
+            set_each(rt, &mut store, root, &steps);
             Ok(Waiting { store, root })
         }
         Err(NoMemory) => Err(Fail::from(NoMemory)),
@@ -72,58 +76,71 @@ fn number(first: u32, second: u32, third: u32) -> Key {
     Key::Number([a, b, c, d, e, f, g, h, i, j, k, l])
 }
 
+// A key by which the domain of a root goes on, with a count of its calls.
+fn resume(root: NodeId, count: u64) -> Key {
+    Key::Resume {
+        domain: root,
+        count,
+    }
+}
+
+// Keys of the resume room by which it does not go on.
+fn other_keys(root: NodeId) -> [Case; 3] {
+    [
+        with_key(SLOT, resume(root, 0), false),
+        with_key(SLOT, resume(NodeId(1), u64::MAX), false),
+        with_key(SLOT, Key::Domain { id: root }, false),
+    ]
+}
+
+// Writes a key over another one of a node, and looks.
+fn looks<T: Store>(rt: &impl Abort, store: &mut T, node: NodeId, case: Case)
+    requires readable { IsReadable (kernel_of (T.memory store.old)) }
+    requires in_range { KeysInRange (kernel_of (T.memory store.old)) }
+    ensures readable { IsReadable (kernel_of (T.memory store.new)) }
+    ensures in_range { KeysInRange (kernel_of (T.memory store.new)) }
+{
+    assert!(rt; node.0 < node_number(store));
+    assert!(rt; case.place < 16);
+    assert!(rt; looks_with(store, SLOT, node, case.place, case.key) == Some(case.right));
+}
+
+// Looks at each case.
+fn look_at_all<T: Store>(rt: &impl Abort, store: &mut T, node: NodeId, cases: &[Case])
+    requires readable { IsReadable (kernel_of (T.memory store.old)) }
+    requires in_range { KeysInRange (kernel_of (T.memory store.old)) }
+    ensures readable { IsReadable (kernel_of (T.memory store.new)) }
+    ensures in_range { KeysInRange (kernel_of (T.memory store.new)) }
+{
+    for case in cases {
+        looks(rt, store, node, *case);
+    }
+}
+
 // Writes the key of the resume room by which the domain of a root goes on, and looks at the slot without it and with others.
 fn goes_on<T: Store>(rt: &impl Abort, store: &mut T, root: NodeId)
     requires readable { IsReadable (kernel_of (T.memory store.old)) }
     ensures readable { IsReadable (kernel_of (T.memory store.new)) }
     ensures in_range { KeysInRange (kernel_of (T.memory store.new)) }
-    ensures nodes { (kernel_of (T.memory store.new)).nodes ≡ (kernel_of (T.memory store.old)).nodes }
 {
     assert!(rt; keys_in_range(store));
+    assert!(rt; looks_right(store, SLOT) == Some(false));
+    look_at_all(rt, store, ROOM, &other_keys(root));
     assert!(rt; root.0 < node_number(store));
-    assert_eq!(rt; looks_right(store, SLOT), Some(false));
     let right = Key::Resume {
         domain: root,
         count: u64::MAX,
     };
-    let later = Key::Resume {
-        domain: root,
-        count: 0,
-    };
-    let other = Key::Resume {
-        domain: NodeId(1),
-        count: u64::MAX,
-    };
-    assert_eq!(rt; looks_with(store, SLOT, ROOM, SLOT, later), Some(false));
-    assert_eq!(rt; looks_with(store, SLOT, ROOM, SLOT, other), Some(false));
-    assert_eq!(rt;
-        looks_with(store, SLOT, ROOM, SLOT, Key::Domain { id: root }),
-        Some(false)
-    );
     put_low(store, ROOM, SLOT, right);
 }
 
-// Writes a key over another one of the root, and looks.
-fn looks<T: Store>(rt: &impl Abort, store: &mut T, root: NodeId, case: Case)
+// Looks at each case of a domain that waits in a phase, once it may go on.
+fn waits<T: Store>(rt: &impl Abort, store: &mut T, root: NodeId, cases: &[Case])
     requires readable { IsReadable (kernel_of (T.memory store.old)) }
-    requires in_range { KeysInRange (kernel_of (T.memory store.old)) }
-    ensures readable { IsReadable (kernel_of (T.memory store.new)) }
-    ensures in_range { KeysInRange (kernel_of (T.memory store.new)) }
 {
-    assert!(rt; root.0 < node_number(store));
-    assert!(rt; case.place < 16);
-    let answer = looks_with(store, SLOT, root, case.place, case.key);
-    assert_eq!(rt; answer, Some(case.right));
-}
-
-// Looks at each case.
-fn look_at_all<T: Store>(rt: &impl Abort, store: &mut T, root: NodeId, cases: &[Case])
-    requires readable { IsReadable (kernel_of (T.memory store.old)) }
-    requires in_range { KeysInRange (kernel_of (T.memory store.old)) }
-{
-    for case in cases {
-        looks(rt, store, root, *case);
-    }
+    goes_on(rt, store, root);
+    assert!(rt; looks_right(store, SLOT) == Some(true));
+    look_at_all(rt, store, root, cases);
 }
 
 // What may stand in a root whose request has bytes in the buffer.
@@ -185,15 +202,8 @@ fn a_domain_that_waits_for_a_server_is_looked_at(rt: HostRuntime) -> Result<(), 
         args: [1, 0x2000, 11, 0],
         length: 11,
     };
-    let Waiting { mut store, root } = machine_that_waits(
-        rt.alloc(),
-        request,
-        NO_ANSWER,
-        Phase::Sent,
-    )?;
-    goes_on(&rt, &mut store, root);
-    assert_eq!(rt; looks_right(&store, SLOT), Some(true));
-    look_at_all(&rt, &mut store, root, &sent_cases());
+    let Waiting { mut store, root } = machine_that_waits(&rt, rt.alloc(), request, Phase::Sent)?;
+    waits(&rt, &mut store, root, &sent_cases());
     Ok(())
 }
 
@@ -204,14 +214,7 @@ fn a_domain_that_was_answered_is_looked_at(rt: HostRuntime) -> Result<(), Fail> 
         args: [0; 4],
         length: 0,
     };
-    let Waiting { mut store, root } = machine_that_waits(
-        rt.alloc(),
-        request,
-        NO_ANSWER,
-        Phase::Done,
-    )?;
-    goes_on(&rt, &mut store, root);
-    assert_eq!(rt; looks_right(&store, SLOT), Some(true));
-    look_at_all(&rt, &mut store, root, &done_cases());
+    let Waiting { mut store, root } = machine_that_waits(&rt, rt.alloc(), request, Phase::Done)?;
+    waits(&rt, &mut store, root, &done_cases());
     Ok(())
 }

@@ -13,3 +13,9 @@ write_buffer-requires-clause-room g c = λ some none. first_room (kernel_of (g.T
 pub returns-clause-buffered : goal.returns-clause-buffered
 returns-clause-buffered g c =
     buffered (kernel_of (g.T.Store.memory c.first_domain-root.new.store)) (kernel_of (g.T.Store.memory c.write_buffer.new.store)) c.first_domain-root.result.0 7 c.args.bytes.now c.first_domain-root.ensures.first (c.write_buffer.ensures.written c.requires.some)
+
+pub returns-clause-live : goal.returns-clause-live
+returns-clause-live g c = (returns-clause-buffered g c).live
+
+pub returns-clause-whole : goal.returns-clause-whole
+returns-clause-whole g c = (returns-clause-buffered g c).whole
