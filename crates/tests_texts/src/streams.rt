@@ -116,21 +116,35 @@ fn bytes(sink: &MemSink) -> &[u8] {
     sink.bytes()
 }
 
-#[test]
-fn a_source_gives_its_bytes_and_fails_at_the_listed_call(rt: HostRuntime) -> Result<(), Fail> {
-    let mut source = mem_source(rt.alloc(), &[7, 8], &[1, 3])?;
-    assert!(rt; next(&mut source) == Ok(Some(7)));
-    assert!(rt; next(&mut source) == Err(Failed));
-    assert!(rt; rest(&source) == [8].as_slice());
-    assert!(rt; next(&mut source) == Ok(Some(8)));
-    assert!(rt; next(&mut source) == Err(Failed));
-    assert!(rt; next(&mut source) == Ok(None));
-    assert!(rt; next(&mut source) == Ok(None));
-    Ok(())
+// Whether a source gives this, call by call.
+fn gives<S: Source>(from: &mut S, answers: &[Result<Option<u8>, Failed>]) -> bool {
+    for answer in answers {
+        if next(from) != *answer {
+            return false;
+        }
+    }
+    true
+}
+
+// Whether a sink takes these pieces, or fails at them.
+fn takes<K: Sink>(to: &mut K, pieces: &[(&[u8], Result<(), Failed>)]) -> bool {
+    for (piece, answer) in pieces {
+        if put(to, piece) != *answer {
+            return false;
+        }
+    }
+    true
 }
 
 #[test]
-fn a_source_of_bytes_gives_them_in_order(rt: HostRuntime) -> Result<(), Fail> {
+fn sources_give_their_bytes_in_order_and_fail_at_the_listed_call(
+    rt: HostRuntime,
+) -> Result<(), Fail> {
+    let mut source = mem_source(rt.alloc(), &[7, 8], &[1, 3])?;
+    assert!(rt; gives(&mut source, &[Ok(Some(7)), Err(Failed)]));
+    assert!(rt; rest(&source) == [8].as_slice());
+    let end = [Ok(Some(8)), Err(Failed), Ok(None), Ok(None)];
+    assert!(rt; gives(&mut source, &end));
     let mut source = byte_source(rt.alloc(), &[7, 8, 9])?;
     assert!(rt; two(&mut source) == Ok(Some((7, 8))));
     assert!(rt; rest_of_bytes(&source) == [9].as_slice());
@@ -139,22 +153,19 @@ fn a_source_of_bytes_gives_them_in_order(rt: HostRuntime) -> Result<(), Fail> {
 }
 
 #[test]
-fn a_sink_keeps_what_is_put_up_to_its_room(rt: HostRuntime) -> Result<(), Fail> {
+fn sinks_keep_what_is_put_and_fail_past_their_room_and_at_the_listed_call(
+    rt: HostRuntime,
+) -> Result<(), Fail> {
     let mut sink = mem_sink(rt.alloc(), &[])?;
     assert!(rt; three(&mut sink, b"ab", b"", b"cd") == Ok(()));
-    assert!(rt; put(&mut sink, b"efg") == Err(Failed));
+    assert!(rt; takes(&mut sink, &[(b"efg", Err(Failed))]));
     assert!(rt; bytes(&sink) == b"abcd".as_slice());
-    assert!(rt; put(&mut sink, b"ef") == Ok(()));
+    assert!(rt; takes(&mut sink, &[(b"ef", Ok(()))]));
     assert!(rt; bytes(&sink) == b"abcdef".as_slice());
-    Ok(())
-}
-
-#[test]
-fn a_sink_fails_at_the_listed_call_and_goes_on(rt: HostRuntime) -> Result<(), Fail> {
     let mut sink = mem_sink(rt.alloc(), &[1])?;
     assert!(rt; three(&mut sink, b"ab", b"cd", b"ef") == Err(WriteFault));
     assert!(rt; bytes(&sink) == b"ab".as_slice());
-    assert!(rt; put(&mut sink, b"gh") == Ok(()));
+    assert!(rt; takes(&mut sink, &[(b"gh", Ok(()))]));
     assert!(rt; bytes(&sink) == b"abgh".as_slice());
     Ok(())
 }
@@ -217,17 +228,12 @@ fn source_over<R: Read>(reader: R) -> ReadSource<R> {
 #[test]
 fn a_reader_is_a_source(rt: HostRuntime) {
     let mut source = source_over(b"ab".as_slice());
-    assert!(rt; next(&mut source) == Ok(Some(b'a')));
-    assert!(rt; next(&mut source) == Ok(Some(b'b')));
-    assert!(rt; next(&mut source) == Ok(None));
+    let answers = [Ok(Some(b'a')), Ok(Some(b'b')), Ok(None)];
+    assert!(rt; gives(&mut source, &answers));
+    // An interrupted read is tried again.
     let mut unsteady = source_over(Unsteady { reads: 0 });
-    assert!(rt; next(&mut unsteady) == Ok(Some(7)));
-    assert!(rt;
-        next(&mut unsteady) == Ok(Some(7)),
-        "an interrupted read is tried again"
-    );
-    assert!(rt; next(&mut unsteady) == Err(Failed));
-    assert!(rt; next(&mut unsteady) == Ok(Some(7)));
+    let answers = [Ok(Some(7)), Ok(Some(7)), Err(Failed), Ok(Some(7))];
+    assert!(rt; gives(&mut unsteady, &answers));
 }
 
 // Takes one byte a call, three in all.
@@ -265,7 +271,7 @@ fn both<K: Sink>(to: &mut K, first: &[u8], second: &[u8]) -> Result<(), WriteFau
 }
 
 #[test]
-fn a_writer_is_a_sink(rt: HostRuntime) {
+fn a_writer_is_a_sink_and_has_failed_where_it_takes_nothing(rt: HostRuntime) {
     let mut writer = Narrow {
         bytes: Vec::new(rt.alloc()),
     };
@@ -273,15 +279,14 @@ fn a_writer_is_a_sink(rt: HostRuntime) {
     assert!(rt; both(&mut sink, b"a", b"b") == Ok(()));
     assert!(rt; put(&mut sink, b"cd") == Err(Failed));
     assert!(rt; writer.bytes.as_slice() == b"abc".as_slice());
-}
-
-#[test]
-fn a_writer_that_takes_nothing_has_failed(rt: HostRuntime) {
     let mut room = [0; 3];
     let mut sink = sink_over(room.as_mut_slice());
-    assert!(rt; put(&mut sink, b"ab") == Ok(()));
-    assert!(rt; put(&mut sink, b"") == Ok(()));
-    assert!(rt; put(&mut sink, b"cd") == Err(Failed));
+    let pieces: [(&[u8], Result<(), Failed>); 3] = [
+        (b"ab", Ok(())),
+        (b"", Ok(())),
+        (b"cd", Err(Failed)),
+    ];
+    assert!(rt; takes(&mut sink, &pieces));
     assert!(rt; room == *b"abc");
 }
 
