@@ -116,7 +116,7 @@ fn fails_at(
         images_hold(rt, &disk, call)?;
     }
     let made = disk.calls > number;
-    assert_eq!(rt; made, failed != Call::All, "a failing call is told");
+    assert!(rt; made == (failed != Call::All), "a failing call is told");
     Ok(failed)
 }
 
@@ -194,12 +194,12 @@ fn torn_gate(
 fn a_torn_gate_opens_the_next_generation_at_one_alone(rt: HostRuntime) -> Result<(), Fail> {
     let first = formatted(&rt, &mut small_store(rt.alloc())?)?;
     let (calls, found) = torn_gate(&rt, &first, Fails::Never, 0)?;
-    assert_eq!(rt; found, 2);
+    assert!(rt; found == 2);
     // The last call is the sync behind the write of the gate.
     let last = Fails::Once(calls.saturating_sub(1));
     for byte in [0, 1, 2, 128, 255] {
         let (_, found) = torn_gate(&rt, &first, last, byte)?;
-        assert_eq!(rt; found, if byte == 1 { 2 } else { 1 }, "gate {byte}");
+        assert!(rt; found == if byte == 1 { 2 } else { 1 }, "gate {byte}");
     }
     Ok(())
 }

@@ -23,11 +23,8 @@ fn committed(rt: &(impl Abort + AllocGlobal)) -> Result<Vec<u8>, Fail> {
     let mut disk = Untold::new(rt.alloc(), &first, COMMIT, Fails::Never)?;
     let mut at = START;
     change_first(&mut store);
-    assert_eq!(rt; save(rt, &mut disk, &mut store, &mut at), Ok(()));
-    assert_eq!(rt;
-        (at.generation, at.entries, at.moved, at.synced),
-        (1, 2, 0, false)
-    );
+    assert!(rt; save(rt, &mut disk, &mut store, &mut at) == Ok(()));
+    assert!(rt; (at.generation, at.entries, at.moved, at.synced) == (1, 2, 0, false));
     disk.image(rt.alloc(), Fill::New)
 }
 
@@ -115,7 +112,7 @@ fn each_byte_of_the_label_and_the_headers_is_read(rt: HostRuntime) -> Result<(),
                 (SECOND, second_answer(place, byte)),
             ] {
                 let found = answered(rt.alloc(), &mut bytes, start + place, byte)?;
-                assert_eq!(rt; found, answer, "byte {place} from {start} is {byte}");
+                assert!(rt; found == answer, "byte {place} from {start} is {byte}");
             }
         }
     }
@@ -135,7 +132,7 @@ fn a_damaged_disk_is_refused_by_its_bytes(rt: HostRuntime) -> Result<(), Fail> {
         (SECOND + 4100, 39, Err(RecoverFault::Damaged)),
     ] {
         let found = answered(rt.alloc(), &mut bytes, place, byte)?;
-        assert_eq!(rt; found, answer, "byte {place} is {byte}");
+        assert!(rt; found == answer, "byte {place} is {byte}");
     }
     Ok(())
 }
@@ -161,9 +158,8 @@ fn a_disk_of_another_length_is_refused(rt: HostRuntime) -> Result<(), Fail> {
         (32_993_280, Err(RecoverFault::Damaged)),
     ] {
         let image = of_length(rt.alloc(), &bytes, length)?;
-        assert_eq!(rt;
-            generation_of(rt.alloc(), &image)?,
-            answer,
+        assert!(rt;
+            generation_of(rt.alloc(), &image)? == answer,
             "{length} bytes"
         );
     }
@@ -180,7 +176,7 @@ fn recovery_fails(
     match recover(rt.alloc(), &mut disk) {
         Ok(_machine) => Ok(false),
         Err(fault) => {
-            assert_eq!(rt; fault, RecoverFault::DiskFault, "call {number}");
+            assert!(rt; fault == RecoverFault::DiskFault, "call {number}");
             Ok(true)
         }
     }
@@ -202,13 +198,13 @@ fn a_recovery_of_which_one_call_fails_is_a_fault(rt: HostRuntime) -> Result<(), 
 fn a_formatted_disk_has_its_length_and_gives_its_blocks_back(rt: HostRuntime) -> Result<(), Fail> {
     let mut store = small_store(rt.alloc())?;
     let mut disk = Untold::new(rt.alloc(), b"abc", FORMAT, Fails::Never)?;
-    assert_eq!(rt; present(&mut disk), Ok(false));
-    assert_eq!(rt; put(&rt, &mut disk, &mut store), Ok(()));
-    assert_eq!(rt; disk.length(), Ok(2_281_472));
-    assert_eq!(rt; present(&mut disk), Ok(true));
+    assert!(rt; present(&mut disk) == Ok(false));
+    assert!(rt; put(&rt, &mut disk, &mut store) == Ok(()));
+    assert!(rt; disk.length() == Ok(2_281_472));
+    assert!(rt; present(&mut disk) == Ok(true));
     let image = disk.image(rt.alloc(), Fill::Byte(255))?;
-    assert_eq!(rt; image.len(), 2_281_472);
-    assert_eq!(rt; generations(rt.alloc(), &image)?, 1);
+    assert!(rt; image.len() == 2_281_472);
+    assert!(rt; generations(rt.alloc(), &image)? == 1);
     Ok(())
 }
 
@@ -221,9 +217,9 @@ fn written(rt: &(impl Abort + AllocGlobal), first: &[u8], blocks: u32) -> Result
     }
     let mut disk = Untold::new(rt.alloc(), first, 1_000_000, Fails::Never)?;
     let mut at = START;
-    assert_eq!(rt; save(rt, &mut disk, &mut store, &mut at), Ok(()));
-    assert_eq!(rt; at.entries, blocks);
-    assert_eq!(rt; disk.read, 1, "the gate of its area alone");
+    assert!(rt; save(rt, &mut disk, &mut store, &mut at) == Ok(()));
+    assert!(rt; at.entries == blocks);
+    assert!(rt; disk.read == 1, "the gate of its area alone");
     Ok(disk.written)
 }
 

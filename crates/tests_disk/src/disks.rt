@@ -45,7 +45,7 @@ fn images_are(
         (Fill::Byte(b'*'), marked),
     ] {
         let image = disk.image(rt.alloc(), fill).ok().ok_or("no memory")?;
-        assert_eq!(rt; image.as_slice(), bytes, "with {fill:?}");
+        assert!(rt; image.as_slice() == bytes, "with {fill:?}");
     }
     Ok(())
 }
@@ -100,7 +100,7 @@ fn a_crash_leaves_what_was_synced_and_any_bytes_where_was_written(
             b"abX12\0\x00345",
         ),
     ] {
-        assert_eq!(rt; apply(&mut disk, step), Ok(()), "at {step:?}");
+        assert!(rt; apply(&mut disk, step) == Ok(()), "at {step:?}");
         images_are(&rt, &disk, old, new, marked)?;
     }
     Ok(())
@@ -125,9 +125,9 @@ fn a_disk_in_memory_fails_where_it_is_told_and_where_room_ends(
         (8, Change::Sync, Err(Failed)),
         (9, Change::Length(1), Err(Failed)),
     ] {
-        assert_eq!(rt; apply(&mut disk, step), answer, "at call {number}");
+        assert!(rt; apply(&mut disk, step) == answer, "at call {number}");
     }
-    assert_eq!(rt; disk.length(), Err(Failed), "it has stopped");
+    assert!(rt; disk.length() == Err(Failed), "it has stopped");
     images_are(&rt, &disk, b"wxyz", b"abyz\0\0\0\0", b"**yz")
 }
 
@@ -136,31 +136,31 @@ fn a_file_keeps_what_was_written_when_it_is_opened_again(rt: HostRuntime) -> Res
     let path = "kn_disk_test_file";
     let _ = fs::remove_file(&rt, path);
     let mut disk = FileDisk::at(rt.clone()?, String::from_str(rt.alloc(), path)?);
-    assert_eq!(rt; disk.length(), Ok(0));
-    assert_eq!(rt; disk.set_length(6), Ok(()));
-    assert_eq!(rt; disk.write_at(2, b"XY"), Ok(()));
-    assert_eq!(rt; disk.sync(), Ok(()));
+    assert!(rt; disk.length() == Ok(0));
+    assert!(rt; disk.set_length(6) == Ok(()));
+    assert!(rt; disk.write_at(2, b"XY") == Ok(()));
+    assert!(rt; disk.sync() == Ok(()));
     drop(disk);
     let mut disk = FileDisk::at(rt.clone()?, String::from_str(rt.alloc(), path)?);
     let mut bytes = [7; 6];
-    assert_eq!(rt; disk.read_at(0, &mut bytes), Ok(()));
-    assert_eq!(rt; bytes, *b"\0\0XY\0\0");
-    assert_eq!(rt; disk.read_at(1, &mut bytes), Err(Failed), "past the end");
-    assert_eq!(rt; disk.length(), Ok(6));
-    assert_eq!(rt; disk.set_length(3), Ok(()));
-    assert_eq!(rt; disk.read_at(0, &mut bytes[..3]), Ok(()));
-    assert_eq!(rt; disk.length(), Ok(3));
+    assert!(rt; disk.read_at(0, &mut bytes) == Ok(()));
+    assert!(rt; bytes == *b"\0\0XY\0\0");
+    assert!(rt; disk.read_at(1, &mut bytes) == Err(Failed), "past the end");
+    assert!(rt; disk.length() == Ok(6));
+    assert!(rt; disk.set_length(3) == Ok(()));
+    assert!(rt; disk.read_at(0, &mut bytes[..3]) == Ok(()));
+    assert!(rt; disk.length() == Ok(3));
     fs::remove_file(&rt, path)?;
     Ok(())
 }
 
 // No call of a disk succeeds.
 fn all_fail<F: Files + Drop>(rt: &impl Abort, mut disk: FileDisk<F>) {
-    assert_eq!(rt; disk.length(), Err(Failed));
-    assert_eq!(rt; disk.set_length(6), Err(Failed));
-    assert_eq!(rt; disk.read_at(0, &mut [0; 2]), Err(Failed));
-    assert_eq!(rt; disk.write_at(0, b"XY"), Err(Failed));
-    assert_eq!(rt; disk.sync(), Err(Failed));
+    assert!(rt; disk.length() == Err(Failed));
+    assert!(rt; disk.set_length(6) == Err(Failed));
+    assert!(rt; disk.read_at(0, &mut [0; 2]) == Err(Failed));
+    assert!(rt; disk.write_at(0, b"XY") == Err(Failed));
+    assert!(rt; disk.sync() == Err(Failed));
 }
 
 #[test]
@@ -185,7 +185,7 @@ fn a_file_that_cannot_be_opened_fails_at_each_call(rt: HostRuntime) -> Result<()
 fn a_full_device_refuses_a_write(rt: HostRuntime) -> Result<(), Fail> {
     if fs::metadata(&rt, "/dev/full").is_ok() {
         let mut disk = FileDisk::at(rt.clone()?, String::from_str(rt.alloc(), "/dev/full")?);
-        assert_eq!(rt; disk.write_at(0, b"XY"), Err(Failed));
+        assert!(rt; disk.write_at(0, b"XY") == Err(Failed));
     }
     Ok(())
 }

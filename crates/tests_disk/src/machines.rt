@@ -111,7 +111,7 @@ pub(crate) fn formatted(
     store: &mut RamStore,
 ) -> Result<Vec<u8>, Fail> {
     let mut disk = Untold::new(rt.alloc(), &[], FORMAT, Fails::Never)?;
-    assert_eq!(rt; put(rt, &mut disk, store), Ok(()));
+    assert!(rt; put(rt, &mut disk, store) == Ok(()));
     disk.image(rt.alloc(), Fill::New)
 }
 

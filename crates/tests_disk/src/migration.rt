@@ -87,32 +87,22 @@ fn each_saved_block_is_written_home_once_and_synced(rt: HostRuntime) -> Result<(
         Ok(machine) => machine,
         Err(_) => return Err("no machine".into()),
     };
-    assert_eq!(rt;
-        (at.generation, at.entries, at.moved, at.synced),
-        (1, 3, 0, false)
-    );
+    assert!(rt; (at.generation, at.entries, at.moved, at.synced) == (1, 3, 0, false));
     match some(&mut disk, pages, &mut at, 2) {
         Ok(()) => {}
         Err(_) => return Err("no migration".into()),
     }
-    assert_eq!(rt;
-        (at.generation, at.entries, at.moved, at.synced),
-        (1, 3, 2, false)
-    );
+    assert!(rt; (at.generation, at.entries, at.moved, at.synced) == (1, 3, 2, false));
     home_is(&rt, &disk, Fill::New, &[(2, 7), (5, 8), (183, 0)])?;
     home_is(&rt, &disk, Fill::Old, &[(2, 0), (5, 0), (183, 0)])?;
     match some(&mut disk, pages, &mut at, u32::MAX) {
         Ok(()) => {}
         Err(_) => return Err("no end of the migration".into()),
     }
-    assert_eq!(rt;
-        (at.generation, at.entries, at.moved, at.synced),
-        (1, 3, 3, true)
-    );
+    assert!(rt; (at.generation, at.entries, at.moved, at.synced) == (1, 3, 3, true));
     home_is(&rt, &disk, Fill::Old, &[(1, 0), (2, 7), (5, 8), (183, 9)])?;
-    assert_eq!(rt;
-        some(&mut disk, pages, &mut at, 1),
-        Err(DiskFault),
+    assert!(rt;
+        some(&mut disk, pages, &mut at, 1) == Err(DiskFault),
         "the history is full"
     );
     Ok(())

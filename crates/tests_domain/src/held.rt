@@ -47,7 +47,7 @@ fn first_bytes_take_a_zero_page_that_is_given_back(rt: HostRuntime) -> Result<()
     let Held { mut store, root } = machine_with_buffer(rt.alloc(), &[1, 2, 3, 4])?;
     let mut into = [9; 12];
     first_bytes(&store, root, &mut into);
-    assert_eq!(rt; into, [0, 0, 0, 0, 0, 0, 0, 1, 2, 3, 4, 0]);
+    assert!(rt; into == [0, 0, 0, 0, 0, 0, 0, 1, 2, 3, 4, 0]);
     give_buffer(&mut store, root);
     Ok(())
 }

@@ -35,7 +35,7 @@ fn count_written<T: Store>(rt: &impl Abort, store: &T, file: u32, at: u32) -> us
     requires good { FilesGood (kernel_of (T.memory store.now)) }
 {
     let mut into = [9; 4096];
-    assert_eq!(rt; read(store, file, at, &mut into), Ok(4096));
+    assert!(rt; read(store, file, at, &mut into) == Ok(4096));
     into.iter().filter(|byte| **byte != 0).count()
 }
 
@@ -45,19 +45,18 @@ fn look<T: Store>(rt: &impl Abort, store: &T, file: u32, count: u32)
 {
     for page in 0..4 {
         let here = count.saturating_sub(4096 * page).min(4096) as usize;
-        assert_eq!(rt;
-            count_written(rt, store, file, 4096 * page),
-            here,
+        assert!(rt;
+            count_written(rt, store, file, 4096 * page) == here,
             "{count}"
         );
     }
     let mut byte = [9];
     if count > 0 {
-        assert_eq!(rt; read(store, file, count - 1, &mut byte), Ok(1));
-        assert_eq!(rt; byte, [b'x']);
+        assert!(rt; read(store, file, count - 1, &mut byte) == Ok(1));
+        assert!(rt; byte == [b'x']);
     }
-    assert_eq!(rt; read(store, file, count.min(16_383), &mut byte), Ok(1));
-    assert_eq!(rt; byte, [0]);
+    assert!(rt; read(store, file, count.min(16_383), &mut byte) == Ok(1));
+    assert!(rt; byte == [0]);
 }
 
 // A file of 9,001 bytes is cut to each length, and grows again: by a cut to a greater length, or by a byte written behind a gap.
@@ -66,22 +65,22 @@ fn cut_all<T: Store>(rt: &impl Abort, store: &mut T, file: u32)
     ensures good { FilesGood (kernel_of (T.memory store.new)) }
 {
     for (length, pages) in lengths() {
-        assert_eq!(rt; write(store, file, 0, &[b'x'; 9001]), Ok(9001));
-        assert_eq!(rt; cut(store, file, length), Ok(()));
-        assert_eq!(rt; length_of(store, file), Ok(length));
+        assert!(rt; write(store, file, 0, &[b'x'; 9001]) == Ok(9001));
+        assert!(rt; cut(store, file, length) == Ok(()));
+        assert!(rt; length_of(store, file) == Ok(length));
         let held = Pages {
             promised: pages.wrapping_add(1),
             taken: pages,
         };
-        assert_eq!(rt; pages_of(store), held, "{length}");
-        assert_eq!(rt; cut(store, file, 16_384), Ok(()));
+        assert!(rt; pages_of(store) == held, "{length}");
+        assert!(rt; cut(store, file, 16_384) == Ok(()));
         let grown = Pages {
             promised: 5,
             taken: pages,
         };
-        assert_eq!(rt; pages_of(store), grown, "{length}");
+        assert!(rt; pages_of(store) == grown, "{length}");
         look(rt, store, file, length);
-        assert_eq!(rt; cut(store, file, 0), Ok(()));
+        assert!(rt; cut(store, file, 0) == Ok(()));
     }
 }
 
@@ -90,12 +89,12 @@ fn behind_a_cut_a_file_is_zero_when_it_grows_again(rt: HostRuntime) -> Result<()
     let mut store = machine(rt.alloc(), 64)?;
     let file = new_file(&rt, &mut store);
     cut_all(&rt, &mut store, file);
-    assert_eq!(rt;
-        pages_of(&store),
-        Pages {
-            promised: 1,
-            taken: 0
-        }
+    assert!(rt;
+        pages_of(&store)
+            == Pages {
+                promised: 1,
+                taken: 0
+            }
     );
     Ok(())
 }
@@ -104,16 +103,16 @@ fn behind_a_cut_a_file_is_zero_when_it_grows_again(rt: HostRuntime) -> Result<()
 fn a_byte_behind_a_cut_leaves_zeros_before_it(rt: HostRuntime) -> Result<(), Fail> {
     let mut store = machine(rt.alloc(), 64)?;
     let file = new_file(&rt, &mut store);
-    assert_eq!(rt; write(&mut store, file, 0, &[b'x'; 9001]), Ok(9001));
-    assert_eq!(rt; cut(&mut store, file, 4098), Ok(()));
-    assert_eq!(rt; write(&mut store, file, 16_383, b"\0"), Ok(1));
+    assert!(rt; write(&mut store, file, 0, &[b'x'; 9001]) == Ok(9001));
+    assert!(rt; cut(&mut store, file, 4098) == Ok(()));
+    assert!(rt; write(&mut store, file, 16_383, b"\0") == Ok(1));
     look(&rt, &store, file, 4098);
-    assert_eq!(rt;
-        pages_of(&store),
-        Pages {
-            promised: 5,
-            taken: 3
-        }
+    assert!(rt;
+        pages_of(&store)
+            == Pages {
+                promised: 5,
+                taken: 3
+            }
     );
     Ok(())
 }
@@ -122,18 +121,18 @@ fn a_byte_behind_a_cut_leaves_zeros_before_it(rt: HostRuntime) -> Result<(), Fai
 fn a_length_past_the_greatest_or_without_room_is_refused(rt: HostRuntime) -> Result<(), Fail> {
     let mut store = machine(rt.alloc(), 64)?;
     let file = new_file(&rt, &mut store);
-    assert_eq!(rt; cut(&mut store, file, 4_194_305), Err(Errno::Efbig));
-    assert_eq!(rt; cut(&mut store, file, 4_294_967_295), Err(Errno::Efbig));
-    assert_eq!(rt; cut(&mut store, file, 4_194_304), Err(Errno::Enospc));
-    assert_eq!(rt; cut(&mut store, file, 258_049), Err(Errno::Enospc));
-    assert_eq!(rt; length_of(&store, file), Ok(0));
-    assert_eq!(rt; cut(&mut store, file, 258_048), Ok(()));
-    assert_eq!(rt;
-        pages_of(&store),
-        Pages {
-            promised: 64,
-            taken: 0
-        }
+    assert!(rt; cut(&mut store, file, 4_194_305) == Err(Errno::Efbig));
+    assert!(rt; cut(&mut store, file, 4_294_967_295) == Err(Errno::Efbig));
+    assert!(rt; cut(&mut store, file, 4_194_304) == Err(Errno::Enospc));
+    assert!(rt; cut(&mut store, file, 258_049) == Err(Errno::Enospc));
+    assert!(rt; length_of(&store, file) == Ok(0));
+    assert!(rt; cut(&mut store, file, 258_048) == Ok(()));
+    assert!(rt;
+        pages_of(&store)
+            == Pages {
+                promised: 64,
+                taken: 0
+            }
     );
     Ok(())
 }

@@ -16,36 +16,36 @@ fn a_file_that_goes_gives_back_its_pages_and_its_promise(rt: HostRuntime) -> Res
     let mut store = machine(rt.alloc(), 64)?;
     let stays = new_file(&rt, &mut store);
     let goes = new_file(&rt, &mut store);
-    assert_eq!(rt; write(&mut store, stays, 4094, b"abcd"), Ok(4));
-    assert_eq!(rt;
-        pages_of(&store),
-        Pages {
-            promised: 3,
-            taken: 2
-        }
+    assert!(rt; write(&mut store, stays, 4094, b"abcd") == Ok(4));
+    assert!(rt;
+        pages_of(&store)
+            == Pages {
+                promised: 3,
+                taken: 2
+            }
     );
-    assert_eq!(rt; write(&mut store, goes, 0, &[7; 9000]), Ok(9000));
-    assert_eq!(rt; write(&mut store, goes, 81_919, b"z"), Ok(1));
-    assert_eq!(rt;
-        pages_of(&store),
-        Pages {
-            promised: 23,
-            taken: 6
-        }
+    assert!(rt; write(&mut store, goes, 0, &[7; 9000]) == Ok(9000));
+    assert!(rt; write(&mut store, goes, 81_919, b"z") == Ok(1));
+    assert!(rt;
+        pages_of(&store)
+            == Pages {
+                promised: 23,
+                taken: 6
+            }
     );
-    assert_eq!(rt; drop_one(&mut store, goes), Ok(()));
-    assert_eq!(rt;
-        pages_of(&store),
-        Pages {
-            promised: 3,
-            taken: 2
-        }
+    assert!(rt; drop_one(&mut store, goes) == Ok(()));
+    assert!(rt;
+        pages_of(&store)
+            == Pages {
+                promised: 3,
+                taken: 2
+            }
     );
-    assert_eq!(rt; length_of(&store, goes), Err(Errno::Ebadf));
-    assert_eq!(rt; drop_one(&mut store, goes), Err(Errno::Ebadf));
+    assert!(rt; length_of(&store, goes) == Err(Errno::Ebadf));
+    assert!(rt; drop_one(&mut store, goes) == Err(Errno::Ebadf));
     let mut into = [9; 5];
-    assert_eq!(rt; read(&store, stays, 4093, &mut into), Ok(5));
-    assert_eq!(rt; into, *b"\0abcd");
+    assert!(rt; read(&store, stays, 4093, &mut into) == Ok(5));
+    assert!(rt; into == *b"\0abcd");
     Ok(())
 }
 
@@ -53,22 +53,22 @@ fn a_file_that_goes_gives_back_its_pages_and_its_promise(rt: HostRuntime) -> Res
 fn a_number_that_was_freed_is_that_of_a_file_without_bytes(rt: HostRuntime) -> Result<(), Fail> {
     let mut store = machine(rt.alloc(), 64)?;
     let first = new_file(&rt, &mut store);
-    assert_eq!(rt; write(&mut store, first, 0, b"abc"), Ok(3));
-    assert_eq!(rt; drop_one(&mut store, first), Ok(()));
+    assert!(rt; write(&mut store, first, 0, b"abc") == Ok(3));
+    assert!(rt; drop_one(&mut store, first) == Ok(()));
     let second = new_file(&rt, &mut store);
-    assert_eq!(rt; second, first);
-    assert_eq!(rt; length_of(&store, second), Ok(0));
-    assert_eq!(rt; cut(&mut store, second, 5), Ok(()));
+    assert!(rt; second == first);
+    assert!(rt; length_of(&store, second) == Ok(0));
+    assert!(rt; cut(&mut store, second, 5) == Ok(()));
     let mut into = [9; 6];
-    assert_eq!(rt; read(&store, second, 0, &mut into), Ok(5));
-    assert_eq!(rt; into, *b"\0\0\0\0\0\t");
-    assert_eq!(rt; drop_one(&mut store, second), Ok(()));
-    assert_eq!(rt;
-        pages_of(&store),
-        Pages {
-            promised: 1,
-            taken: 0
-        }
+    assert!(rt; read(&store, second, 0, &mut into) == Ok(5));
+    assert!(rt; into == *b"\0\0\0\0\0\t");
+    assert!(rt; drop_one(&mut store, second) == Ok(()));
+    assert!(rt;
+        pages_of(&store)
+            == Pages {
+                promised: 1,
+                taken: 0
+            }
     );
     Ok(())
 }

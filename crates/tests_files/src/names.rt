@@ -32,7 +32,7 @@ pub fn add_names<T: Store>(rt: &impl Abort, store: &mut T, dir: u32, inode: u32,
     ensures good { FilesGood (kernel_of (T.memory store.new)) }
 {
     for number in 0..count {
-        assert_eq!(rt; add(store, dir, &numbered(number), inode), Ok(()));
+        assert!(rt; add(store, dir, &numbered(number), inode) == Ok(()));
     }
 }
 
@@ -70,9 +70,9 @@ fn make_all<T: Store>(
     let length = length_of(store, dir);
     let pages = pages_of(store);
     for row in rows {
-        assert_eq!(rt; make(store, dir, file, row.0, row.1), row.2);
-        assert_eq!(rt; length_of(store, dir), length);
-        assert_eq!(rt; pages_of(store), pages);
+        assert!(rt; make(store, dir, file, row.0, row.1) == row.2);
+        assert!(rt; length_of(store, dir) == length);
+        assert!(rt; pages_of(store) == pages);
     }
 }
 
@@ -82,13 +82,13 @@ fn a_full_directory_takes_a_name_where_one_went(rt: HostRuntime) -> Result<(), F
     let file = new_file(&rt, &mut store);
     let dir = new_directory(&rt, &mut store);
     add_names(&rt, &mut store, dir, file, 1024);
-    assert_eq!(rt; length_of(&store, dir), Ok(32_768));
-    assert_eq!(rt;
-        pages_of(&store),
-        Pages {
-            promised: 9,
-            taken: 8
-        }
+    assert!(rt; length_of(&store, dir) == Ok(32_768));
+    assert!(rt;
+        pages_of(&store)
+            == Pages {
+                promised: 9,
+                taken: 8
+            }
     );
     let rows = [
         (Call::Add, b"more".as_slice(), Err(Errno::Enospc)),
@@ -101,10 +101,10 @@ fn a_full_directory_takes_a_name_where_one_went(rt: HostRuntime) -> Result<(), F
         (Call::Add, b"again".as_slice(), Err(Errno::Enospc)),
     ];
     make_all(&rt, &mut store, dir, file, &rows);
-    assert_eq!(rt; find(&store, dir, b"n0002"), None);
+    assert!(rt; find(&store, dir, b"n0002") == None);
     let mut entry = [0; 32];
-    assert_eq!(rt; list(&store, dir, 2, &mut entry), Ok((32, 3)));
-    assert_eq!(rt; entry, entry_of(b"more", file));
+    assert!(rt; list(&store, dir, 2, &mut entry) == Ok((32, 3)));
+    assert!(rt; entry == entry_of(b"more", file));
     Ok(())
 }
 
@@ -116,13 +116,13 @@ fn a_directory_has_no_room_for_a_page_more_than_the_machine_has(
     let file = new_file(&rt, &mut store);
     let dir = new_directory(&rt, &mut store);
     add_names(&rt, &mut store, dir, file, 128);
-    assert_eq!(rt; write(&mut store, file, 253_951, b"x"), Ok(1));
-    assert_eq!(rt;
-        pages_of(&store),
-        Pages {
-            promised: 64,
-            taken: 2
-        }
+    assert!(rt; write(&mut store, file, 253_951, b"x") == Ok(1));
+    assert!(rt;
+        pages_of(&store)
+            == Pages {
+                promised: 64,
+                taken: 2
+            }
     );
     let rows = [
         (Call::Add, b"more".as_slice(), Err(Errno::Enospc)),
@@ -141,7 +141,7 @@ fn add_letters<T: Store>(rt: &impl Abort, store: &mut T, dir: u32, inode: u32, l
     ensures good { FilesGood (kernel_of (T.memory store.new)) }
 {
     for letter in letters {
-        assert_eq!(rt; add(store, dir, &[*letter], inode), Ok(()));
+        assert!(rt; add(store, dir, &[*letter], inode) == Ok(()));
     }
 }
 
@@ -199,8 +199,8 @@ fn list_all<T: Store>(rt: &impl Abort, store: &T, dir: u32, inode: u32)
     for (place, room, count, after, letters) in listings() {
         let mut into = [b'.'; 64];
         let told = list(store, dir, place, &mut into[..room.min(64)]);
-        assert_eq!(rt; told, Ok((count, after)), "{place} {room}");
-        assert_eq!(rt; into, letter_entries(letters, inode), "{place} {room}");
+        assert!(rt; told == Ok((count, after)), "{place} {room}");
+        assert!(rt; into == letter_entries(letters, inode), "{place} {room}");
     }
 }
 
@@ -284,10 +284,10 @@ fn add_one<T: Store>(
 {
     let answer = add(store, dir, &numbered(named.name), named.inode);
     if place_of(places, named.name).is_some() {
-        assert_eq!(rt; answer, Err(Errno::Eexist));
+        assert!(rt; answer == Err(Errno::Eexist));
         return Ok(());
     }
-    assert_eq!(rt; answer, Ok(()));
+    assert!(rt; answer == Ok(()));
     match hole_of(places) {
         Some(place) => set_place(places, place, Some(named)),
         None => places.push(Some(named))?,
@@ -314,10 +314,10 @@ fn change_one<T: Store>(
     };
     match place_of(places, named.name) {
         Some(place) => {
-            assert_eq!(rt; answer.ok(), inode_of_name(places, named.name));
+            assert!(rt; answer.ok() == inode_of_name(places, named.name));
             set_place(places, place, if goes { None } else { Some(named) });
         }
-        None => assert_eq!(rt; answer, Err(Errno::Enoent)),
+        None => assert!(rt; answer == Err(Errno::Enoent)),
     }
 }
 
@@ -349,15 +349,9 @@ fn act<T: Store>(
 fn compare<T: Store>(rt: &impl Abort, store: &T, dir: u32, places: &[Option<Named>])
     requires good { FilesGood (kernel_of (T.memory store.now)) }
 {
-    assert_eq!(rt;
-        length_of(store, dir).ok(),
-        Some((places.len() % 1025 * 32) as u32)
-    );
+    assert!(rt; length_of(store, dir).ok() == Some((places.len() % 1025 * 32) as u32));
     for name in 0..300 {
-        assert_eq!(rt;
-            find(store, dir, &numbered(name)),
-            inode_of_name(places, name)
-        );
+        assert!(rt; find(store, dir, &numbered(name)) == inode_of_name(places, name));
     }
 }
 

@@ -41,13 +41,13 @@ fn pages_of_files_are_files_and_those_of_directories_directories(
     let mut store = machine(rt.alloc(), 64)?;
     let file = new_file(&rt, &mut store);
     let dir = new_directory(&rt, &mut store);
-    assert_eq!(rt; owned(&store), (0, 0));
-    assert_eq!(rt; write(&mut store, file, 4094, b"abcd"), Ok(4));
-    assert_eq!(rt; owned(&store), (2, 0));
+    assert!(rt; owned(&store) == (0, 0));
+    assert!(rt; write(&mut store, file, 4094, b"abcd") == Ok(4));
+    assert!(rt; owned(&store) == (2, 0));
     add_names(&rt, &mut store, dir, file, 129);
-    assert_eq!(rt; owned(&store), (2, 2));
-    assert_eq!(rt; remove(&mut store, dir, &numbered(7)), Ok(file));
-    assert_eq!(rt; cut(&mut store, file, 4095), Ok(()));
-    assert_eq!(rt; owned(&store), (1, 2));
+    assert!(rt; owned(&store) == (2, 2));
+    assert!(rt; remove(&mut store, dir, &numbered(7)) == Ok(file));
+    assert!(rt; cut(&mut store, file, 4095) == Ok(()));
+    assert!(rt; owned(&store) == (1, 2));
     Ok(())
 }

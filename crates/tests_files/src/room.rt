@@ -44,13 +44,13 @@ fn nearly_full(rt: &impl Abort, alloc: Global) -> Result<RamStore, Fail>
 {
     let mut store = machine(alloc, 128)?;
     let other = new_file(rt, &mut store);
-    assert_eq!(rt; write(&mut store, other, 258_047, b"x"), Ok(1));
-    assert_eq!(rt;
-        pages_of(&store),
-        Pages {
-            promised: 64,
-            taken: 1
-        }
+    assert!(rt; write(&mut store, other, 258_047, b"x") == Ok(1));
+    assert!(rt;
+        pages_of(&store)
+            == Pages {
+                promised: 64,
+                taken: 1
+            }
     );
     Ok(store)
 }
@@ -59,23 +59,23 @@ fn nearly_full(rt: &impl Abort, alloc: Global) -> Result<RamStore, Fail>
 fn a_byte_behind_a_hole_takes_one_page_and_all_promises(rt: HostRuntime) -> Result<(), Fail> {
     let mut store = nearly_full(&rt, rt.alloc())?;
     let file = new_file(&rt, &mut store);
-    assert_eq!(rt; write(&mut store, file, 262_144, &[1]), Err(Errno::Enospc));
-    assert_eq!(rt; length_of(&store, file), Ok(0));
-    assert_eq!(rt;
-        pages_of(&store),
-        Pages {
-            promised: 64,
-            taken: 1
-        }
+    assert!(rt; write(&mut store, file, 262_144, &[1]) == Err(Errno::Enospc));
+    assert!(rt; length_of(&store, file) == Ok(0));
+    assert!(rt;
+        pages_of(&store)
+            == Pages {
+                promised: 64,
+                taken: 1
+            }
     );
-    assert_eq!(rt; write(&mut store, file, 262_143, &[1]), Ok(1));
-    assert_eq!(rt; length_of(&store, file), Ok(262_144));
-    assert_eq!(rt;
-        pages_of(&store),
-        Pages {
-            promised: 128,
-            taken: 2
-        }
+    assert!(rt; write(&mut store, file, 262_143, &[1]) == Ok(1));
+    assert!(rt; length_of(&store, file) == Ok(262_144));
+    assert!(rt;
+        pages_of(&store)
+            == Pages {
+                promised: 128,
+                taken: 2
+            }
     );
     Ok(())
 }
@@ -103,18 +103,17 @@ fn refuse_all<T: Store>(rt: &impl Abort, store: &mut T, file: u32)
 {
     for (at, count, answer) in refusals() {
         let bytes = [7; 2];
-        assert_eq!(rt;
-            write(store, file, at, &bytes[..count.min(2)]),
-            answer,
+        assert!(rt;
+            write(store, file, at, &bytes[..count.min(2)]) == answer,
             "at {at}"
         );
-        assert_eq!(rt; length_of(store, file), Ok(262_144));
-        assert_eq!(rt;
-            pages_of(store),
-            Pages {
-                promised: 128,
-                taken: 2
-            }
+        assert!(rt; length_of(store, file) == Ok(262_144));
+        assert!(rt;
+            pages_of(store)
+                == Pages {
+                    promised: 128,
+                    taken: 2
+                }
         );
     }
 }
@@ -125,11 +124,11 @@ fn a_machine_without_room_refuses_what_is_longer_and_leaves_all(
 ) -> Result<(), Fail> {
     let mut store = nearly_full(&rt, rt.alloc())?;
     let file = new_file(&rt, &mut store);
-    assert_eq!(rt; write(&mut store, file, 262_143, &[1]), Ok(1));
+    assert!(rt; write(&mut store, file, 262_143, &[1]) == Ok(1));
     refuse_all(&rt, &mut store, file);
     let mut last = [9; 3];
-    assert_eq!(rt; read(&store, file, 262_142, &mut last), Ok(2));
-    assert_eq!(rt; last, [0, 1, 9]);
+    assert!(rt; read(&store, file, 262_142, &mut last) == Ok(2));
+    assert!(rt; last == [0, 1, 9]);
     Ok(())
 }
 
@@ -137,20 +136,20 @@ fn a_machine_without_room_refuses_what_is_longer_and_leaves_all(
 fn a_write_is_cut_at_the_greatest_length(rt: HostRuntime) -> Result<(), Fail> {
     let mut store = machine(rt.alloc(), 1088)?;
     let file = new_file(&rt, &mut store);
-    assert_eq!(rt; write(&mut store, file, 4_194_304, b"a"), Err(Errno::Efbig));
-    assert_eq!(rt; length_of(&store, file), Ok(0));
-    assert_eq!(rt; write(&mut store, file, 4_194_302, b"abc"), Ok(2));
-    assert_eq!(rt; length_of(&store, file), Ok(4_194_304));
-    assert_eq!(rt;
-        pages_of(&store),
-        Pages {
-            promised: 1025,
-            taken: 1
-        }
+    assert!(rt; write(&mut store, file, 4_194_304, b"a") == Err(Errno::Efbig));
+    assert!(rt; length_of(&store, file) == Ok(0));
+    assert!(rt; write(&mut store, file, 4_194_302, b"abc") == Ok(2));
+    assert!(rt; length_of(&store, file) == Ok(4_194_304));
+    assert!(rt;
+        pages_of(&store)
+            == Pages {
+                promised: 1025,
+                taken: 1
+            }
     );
-    assert_eq!(rt; write(&mut store, file, 4_194_303, b"def"), Ok(1));
+    assert!(rt; write(&mut store, file, 4_194_303, b"def") == Ok(1));
     let mut last = [9; 4];
-    assert_eq!(rt; read(&store, file, 4_194_301, &mut last), Ok(3));
-    assert_eq!(rt; last, [0, b'a', b'd', 9]);
+    assert!(rt; read(&store, file, 4_194_301, &mut last) == Ok(3));
+    assert!(rt; last == [0, b'a', b'd', 9]);
     Ok(())
 }

@@ -49,12 +49,12 @@ fn write_one<T: Store>(
     match write(store, file, at, &piece[..size]) {
         Ok(count) => {
             assert!(rt; fits(others, end));
-            assert_eq!(rt; count as usize, size);
+            assert!(rt; count as usize == size);
             plain::put(plain, at, &piece[..size])
         }
         Err(errno) => {
             assert!(rt; !fits(others, end));
-            assert_eq!(rt; errno, Errno::Enospc);
+            assert!(rt; errno == Errno::Enospc);
             Ok(())
         }
     }
@@ -79,7 +79,7 @@ fn cut_one<T: Store>(
         }
         Err(errno) => {
             assert!(rt; !fits(others, length as usize));
-            assert_eq!(rt; errno, Errno::Enospc);
+            assert!(rt; errno == Errno::Enospc);
             Ok(())
         }
     }
@@ -92,7 +92,7 @@ fn read_one<T: Store>(rt: &impl Abort, store: &T, file: u32, plain: &Plain, at: 
 {
     let mut into = [7; 8192];
     match read(store, file, at, &mut into[..size]) {
-        Ok(count) => assert_eq!(rt; into.get(..count as usize), part(plain, at, size)),
+        Ok(count) => assert!(rt; into.get(..count as usize) == part(plain, at, size)),
         Err(_errno) => panic!(rt; "no file"),
     }
 }
@@ -127,11 +127,8 @@ fn look<T: Store>(rt: &impl Abort, store: &T, plains: &[Plain])
     requires good { FilesGood (kernel_of (T.memory store.now)) }
 {
     let pages = pages_of(store);
-    assert_eq!(rt;
-        pages.promised as usize,
-        plain::all_promised(plains).saturating_add(1)
-    );
-    assert_eq!(rt; pages.taken, plain::all_taken(plains));
+    assert!(rt; pages.promised as usize == plain::all_promised(plains).saturating_add(1));
+    assert!(rt; pages.taken == plain::all_taken(plains));
 }
 
 // One call on one of three files.
@@ -187,7 +184,7 @@ fn compare<T: Store>(rt: &impl Abort, store: &T, file: u32, plain: &Plain)
     requires good { FilesGood (kernel_of (T.memory store.now)) }
 {
     match length_of(store, file) {
-        Ok(length) => assert_eq!(rt; length as usize, plain.bytes.len()),
+        Ok(length) => assert!(rt; length as usize == plain.bytes.len()),
         Err(_errno) => panic!(rt; "no file"),
     }
     for piece in 0..40 {

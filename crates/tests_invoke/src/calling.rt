@@ -80,18 +80,18 @@ fn a_call_is_answered_once(rt: HostRuntime) -> Result<(), Fail> {
         domain: root,
         count: 0,
     };
-    assert_eq!(rt; call(&mut store, SLOT, start()), Ok(key));
-    assert_eq!(rt; state_of(&store, root), State::Waiting);
+    assert!(rt; call(&mut store, SLOT, start()) == Ok(key));
+    assert!(rt; state_of(&store, root) == State::Waiting);
     let delivered = Delivered {
         to: root,
         byte: 0,
         message: message(),
     };
-    assert_eq!(rt; fork(&mut store, key, message()), Ok(delivered));
-    assert_eq!(rt; state_of(&store, root), State::Running);
-    assert_eq!(rt; count_of(&store, root), 1);
-    assert_eq!(rt; fork(&mut store, key, message()), Err(InvokeFault::VoidKey));
-    assert_eq!(rt; count_of(&store, root), 1);
+    assert!(rt; fork(&mut store, key, message()) == Ok(delivered));
+    assert!(rt; state_of(&store, root) == State::Running);
+    assert!(rt; count_of(&store, root) == 1);
+    assert!(rt; fork(&mut store, key, message()) == Err(InvokeFault::VoidKey));
+    assert!(rt; count_of(&store, root) == 1);
     Ok(())
 }
 
@@ -103,13 +103,10 @@ fn who_runs_is_not_available(rt: HostRuntime) -> Result<(), Fail> {
         byte: 9,
         message: message(),
     };
-    assert_eq!(rt; fork(&mut store, start(), message()), Ok(delivered));
-    assert_eq!(rt;
-        fork(&mut store, start(), message()),
-        Err(InvokeFault::NotAvailable)
-    );
-    assert_eq!(rt; state_of(&store, DIRECTORIES), State::Running);
-    assert_eq!(rt; count_of(&store, DIRECTORIES), 0);
+    assert!(rt; fork(&mut store, start(), message()) == Ok(delivered));
+    assert!(rt; fork(&mut store, start(), message()) == Err(InvokeFault::NotAvailable));
+    assert!(rt; state_of(&store, DIRECTORIES) == State::Running);
+    assert!(rt; count_of(&store, DIRECTORIES) == 0);
     Ok(())
 }
 
@@ -120,11 +117,8 @@ fn a_page_is_not_reached(rt: HostRuntime) -> Result<(), Fail> {
         id: PageId(100),
         writable: true,
     };
-    assert_eq!(rt;
-        fork(&mut store, page, message()),
-        Err(InvokeFault::NotStart)
-    );
-    assert_eq!(rt; call(&mut store, SLOT, page), Err(InvokeFault::NotStart));
+    assert!(rt; fork(&mut store, page, message()) == Err(InvokeFault::NotStart));
+    assert!(rt; call(&mut store, SLOT, page) == Err(InvokeFault::NotStart));
     Ok(())
 }
 
@@ -140,11 +134,11 @@ fn a_service_answers_and_may_be_called_again(rt: HostRuntime) -> Result<(), Fail
         byte: 0,
         message: message(),
     };
-    assert_eq!(rt; serve(&mut store, root, message()), Ok(Some(answered)));
-    assert_eq!(rt; state_of(&store, root), State::Running);
-    assert_eq!(rt; count_of(&store, root), 1);
-    assert_eq!(rt; state_of(&store, DIRECTORIES), State::Available);
-    assert_eq!(rt; count_of(&store, DIRECTORIES), 0);
+    assert!(rt; serve(&mut store, root, message()) == Ok(Some(answered)));
+    assert!(rt; state_of(&store, root) == State::Running);
+    assert!(rt; count_of(&store, root) == 1);
+    assert!(rt; state_of(&store, DIRECTORIES) == State::Available);
+    assert!(rt; count_of(&store, DIRECTORIES) == 0);
     Ok(())
 }
 
@@ -156,18 +150,18 @@ fn who_passes_on_may_be_called(rt: HostRuntime) -> Result<(), Fail> {
         byte: 9,
         message: message(),
     };
-    assert_eq!(rt; ret(&mut store, root, start(), message()), Ok(Some(called)));
-    assert_eq!(rt; state_of(&store, root), State::Available);
-    assert_eq!(rt; state_of(&store, DIRECTORIES), State::Running);
+    assert!(rt; ret(&mut store, root, start(), message()) == Ok(Some(called)));
+    assert!(rt; state_of(&store, root) == State::Available);
+    assert!(rt; state_of(&store, DIRECTORIES) == State::Running);
     Ok(())
 }
 
 #[test]
 fn nobody_is_reached_by_null(rt: HostRuntime) -> Result<(), Fail> {
     let Calling { mut store, root } = machine(rt.alloc())?;
-    assert_eq!(rt; ret(&mut store, root, Key::Null, message()), Ok(None));
-    assert_eq!(rt; state_of(&store, root), State::Available);
-    assert_eq!(rt; count_of(&store, root), 0);
+    assert!(rt; ret(&mut store, root, Key::Null, message()) == Ok(None));
+    assert!(rt; state_of(&store, root) == State::Available);
+    assert!(rt; count_of(&store, root) == 0);
     Ok(())
 }
 
@@ -178,10 +172,7 @@ fn a_refused_answer_changes_nothing(rt: HostRuntime) -> Result<(), Fail> {
         id: PageId(100),
         writable: false,
     };
-    assert_eq!(rt;
-        ret(&mut store, root, page, message()),
-        Err(InvokeFault::NotStart)
-    );
-    assert_eq!(rt; state_of(&store, root), State::Running);
+    assert!(rt; ret(&mut store, root, page, message()) == Err(InvokeFault::NotStart));
+    assert!(rt; state_of(&store, root) == State::Running);
     Ok(())
 }

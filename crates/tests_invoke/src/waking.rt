@@ -49,24 +49,24 @@ fn waiting(alloc: Global) -> Result<RamStore, Fail>
 #[test]
 fn each_is_parked_alone(rt: HostRuntime) -> Result<(), Fail> {
     let mut store = machine(rt.alloc())?;
-    assert_eq!(rt; parked(&store), [false, false, false, false, false]);
+    assert!(rt; parked(&store) == [false, false, false, false, false]);
     park_one(&mut store, 2, FAR);
-    assert_eq!(rt; parked(&store), [false, false, true, false, false]);
+    assert!(rt; parked(&store) == [false, false, true, false, false]);
     park_one(&mut store, 0, WaitFor::Child);
-    assert_eq!(rt; parked(&store), [true, false, true, false, false]);
+    assert!(rt; parked(&store) == [true, false, true, false, false]);
     Ok(())
 }
 
 #[test]
 fn who_waits_for_a_pipe_goes_on(rt: HostRuntime) -> Result<(), Fail> {
     let mut store = waiting(rt.alloc())?;
-    assert_eq!(rt; parked(&store), [true, true, true, true, false]);
+    assert!(rt; parked(&store) == [true, true, true, true, false]);
     wake_all(&mut store, WaitFor::Pipe(3));
-    assert_eq!(rt; parked(&store), [true, true, true, true, false]);
+    assert!(rt; parked(&store) == [true, true, true, true, false]);
     wake_all(&mut store, NEAR);
-    assert_eq!(rt; parked(&store), [false, true, true, false, false]);
+    assert!(rt; parked(&store) == [false, true, true, false, false]);
     wake_all(&mut store, FAR);
-    assert_eq!(rt; parked(&store), [false, false, true, false, false]);
+    assert!(rt; parked(&store) == [false, false, true, false, false]);
     Ok(())
 }
 
@@ -74,9 +74,9 @@ fn who_waits_for_a_pipe_goes_on(rt: HostRuntime) -> Result<(), Fail> {
 fn who_waits_for_a_child_goes_on(rt: HostRuntime) -> Result<(), Fail> {
     let mut store = waiting(rt.alloc())?;
     wake_all(&mut store, WaitFor::Child);
-    assert_eq!(rt; parked(&store), [true, true, false, true, false]);
+    assert!(rt; parked(&store) == [true, true, false, true, false]);
     wake_all(&mut store, WaitFor::Child);
-    assert_eq!(rt; parked(&store), [true, true, false, true, false]);
+    assert!(rt; parked(&store) == [true, true, false, true, false]);
     Ok(())
 }
 
@@ -84,11 +84,11 @@ fn who_waits_for_a_child_goes_on(rt: HostRuntime) -> Result<(), Fail> {
 fn one_slot_goes_on(rt: HostRuntime) -> Result<(), Fail> {
     let mut store = waiting(rt.alloc())?;
     wake_one(&mut store, 3);
-    assert_eq!(rt; parked(&store), [true, true, true, false, false]);
+    assert!(rt; parked(&store) == [true, true, true, false, false]);
     wake_one(&mut store, 0);
-    assert_eq!(rt; parked(&store), [false, true, true, false, false]);
+    assert!(rt; parked(&store) == [false, true, true, false, false]);
     wake_one(&mut store, 63);
     wake_one(&mut store, 0);
-    assert_eq!(rt; parked(&store), [false, true, true, false, false]);
+    assert!(rt; parked(&store) == [false, true, true, false, false]);
     Ok(())
 }

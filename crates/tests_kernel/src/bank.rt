@@ -375,7 +375,7 @@ fn write_and_copy<T: Store>(rt: &impl Abort, store: &mut T, from: PageId, to: Pa
     copy_page(store, from, to);
     let mut bytes = [9; 4];
     read_bank_page(store, to, 4092, &mut bytes);
-    assert_eq!(rt; bytes, [0, 1, 2, 3]);
+    assert!(rt; bytes == [0, 1, 2, 3]);
 }
 
 // Writes a key into a node, and reads it.
@@ -386,8 +386,8 @@ fn write_and_read<T: Store>(rt: &impl Abort, store: &mut T, node: NodeId, key: K
     let entry = node_entry(store, node);
     assert!(rt; is_taken(entry));
     write_key(store, node, 15, key);
-    assert_eq!(rt; key_at(store, node, 15), Some(key));
-    assert_eq!(rt; key_at(store, node, 14), Some(Key::Null));
+    assert!(rt; key_at(store, node, 15) == Some(key));
+    assert!(rt; key_at(store, node, 14) == Some(Key::Null));
 }
 
 #[test]

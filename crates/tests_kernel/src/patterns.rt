@@ -66,12 +66,12 @@ fn word_of(rt: &impl Abort, store: &RamStore, n: u32) -> u32 {
 // Ends a visit in the first row and in row 700 of a book of three pages, the fifth one.
 #[tactic(auto, unfolding(store_pattern::specs::Ledger::ledger_of))]
 fn end_in_row_700(rt: &impl Abort, store: &mut RamStore, visitor: Visitor) {
-    assert_eq!(rt;
-        store.counts(),
-        Counts {
-            pages: 8,
-            nodes: 64
-        }
+    assert!(rt;
+        store.counts()
+            == Counts {
+                pages: 8,
+                nodes: 64
+            }
     );
     assert!(rt; word(store, 0) == 3);
     end_visit(store, 0, 700, visitor, 5);
@@ -80,12 +80,12 @@ fn end_in_row_700(rt: &impl Abort, store: &mut RamStore, visitor: Visitor) {
 // A row of a book of three pages.
 #[tactic(auto, unfolding(store_pattern::specs::Ledger::ledger_of))]
 fn entry_of(rt: &impl Abort, store: &RamStore, n: u32) -> Option<Visitor> {
-    assert_eq!(rt;
-        store.counts(),
-        Counts {
-            pages: 8,
-            nodes: 64
-        }
+    assert!(rt;
+        store.counts()
+            == Counts {
+                pages: 8,
+                nodes: 64
+            }
     );
     assert!(rt; word(store, 0) == 3);
     assert!(rt; n < 1536);

@@ -12,7 +12,7 @@ use std::test::Fail;
 // This block is marked, and no other.
 fn only_dirty(rt: &impl Abort, store: &RamStore, block: u32) {
     for number in 0..store.blocks() {
-        assert_eq!(rt; store.is_dirty(number), number == block);
+        assert!(rt; store.is_dirty(number) == (number == block));
     }
 }
 

@@ -34,11 +34,11 @@ fn first_store(alloc: Global) -> Result<RamStore, Fail>
 fn one_process_stands_in_slot_0_and_a_page_is_promised(rt: HostRuntime) -> Result<(), Fail> {
     let store = first_store(rt.alloc())?;
     assert!(rt; root_of(&store, 0).is_some());
-    assert_eq!(rt; root_of(&store, 1), None);
-    assert_eq!(rt; promised(&store), 1);
+    assert!(rt; root_of(&store, 1) == None);
+    assert!(rt; promised(&store) == 1);
     let taken = taken_of(&store);
-    assert_eq!(rt; taken.pages, 0);
-    assert_eq!(rt; taken.nodes, 4);
-    assert_eq!(rt; machine_word(&store, 12), 2);
+    assert!(rt; taken.pages == 0);
+    assert!(rt; taken.nodes == 4);
+    assert!(rt; machine_word(&store, 12) == 2);
     Ok(())
 }

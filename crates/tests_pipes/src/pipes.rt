@@ -40,9 +40,9 @@ fn a_pipe_without_ends_is_at_its_end_and_takes_nothing(rt: HostRuntime) -> Resul
     let mut store = machine(rt.alloc())?;
     let pipe = empty_pipe(&rt, &mut store);
     let mut into = [7; 8];
-    assert_eq!(rt; take(&mut store, pipe, &mut into), Piped::End);
-    assert_eq!(rt; put(&mut store, pipe, b"x"), Err(Errno::Epipe));
-    assert_eq!(rt; into[0], 7);
+    assert!(rt; take(&mut store, pipe, &mut into) == Piped::End);
+    assert!(rt; put(&mut store, pipe, b"x") == Err(Errno::Epipe));
+    assert!(rt; into[0] == 7);
     Ok(())
 }
 
@@ -53,13 +53,13 @@ fn a_pipe_takes_all_bytes_or_none(rt: HostRuntime) -> Result<(), Fail> {
     open_both(&rt, &mut store, pipe);
     let bytes = [9; 4000];
     let mut into = [0; 4096];
-    assert_eq!(rt; take(&mut store, pipe, &mut into), Piped::Wait);
-    assert_eq!(rt; put(&mut store, pipe, &bytes), Ok(Piped::Moved(4000)));
-    assert_eq!(rt; put(&mut store, pipe, &bytes[..97]), Ok(Piped::Wait));
-    assert_eq!(rt; put(&mut store, pipe, &bytes[..96]), Ok(Piped::Moved(96)));
-    assert_eq!(rt; put(&mut store, pipe, &bytes[..1]), Ok(Piped::Wait));
-    assert_eq!(rt; take(&mut store, pipe, &mut into), Piped::Moved(4096));
-    assert_eq!(rt; take(&mut store, pipe, &mut into), Piped::Wait);
+    assert!(rt; take(&mut store, pipe, &mut into) == Piped::Wait);
+    assert!(rt; put(&mut store, pipe, &bytes) == Ok(Piped::Moved(4000)));
+    assert!(rt; put(&mut store, pipe, &bytes[..97]) == Ok(Piped::Wait));
+    assert!(rt; put(&mut store, pipe, &bytes[..96]) == Ok(Piped::Moved(96)));
+    assert!(rt; put(&mut store, pipe, &bytes[..1]) == Ok(Piped::Wait));
+    assert!(rt; take(&mut store, pipe, &mut into) == Piped::Moved(4096));
+    assert!(rt; take(&mut store, pipe, &mut into) == Piped::Wait);
     Ok(())
 }
 
@@ -91,7 +91,7 @@ fn put_some<T: Store>(
     let held = plain.bytes.len().saturating_sub(plain.taken);
     match put(store, pipe, &piece[..size]) {
         Ok(Piped::Moved(count)) => {
-            assert_eq!(rt; count as usize, size);
+            assert!(rt; count as usize == size);
             match plain.bytes.extend_from_slice(&piece[..size]) {
                 Ok(()) => {}
                 Err(_fault) => panic!(rt; "no memory"),
@@ -113,15 +113,14 @@ fn take_some<T: Store>(rt: &impl Abort, store: &mut T, pipe: u32, plain: &mut Pl
     let held = plain.bytes.len().saturating_sub(plain.taken);
     match take(store, pipe, &mut piece[..size]) {
         Piped::Moved(count) => {
-            assert_eq!(rt; count as usize, size.min(held));
+            assert!(rt; count as usize == size.min(held));
             let end = plain.taken.saturating_add(count as usize);
-            assert_eq!(rt;
-                Some(&piece[..size.min(count as usize)]),
-                plain.bytes.get(plain.taken..end)
+            assert!(rt;
+                Some(&piece[..size.min(count as usize)]) == plain.bytes.get(plain.taken..end)
             );
             plain.taken = end;
         }
-        Piped::Wait => assert_eq!(rt; held, 0),
+        Piped::Wait => assert!(rt; held == 0),
         Piped::End => panic!(rt; "no writer"),
     }
 }

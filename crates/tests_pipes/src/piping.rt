@@ -24,7 +24,7 @@ pub fn empty_pipe<T: Store>(rt: &impl Abort, store: &mut T) -> u32
     match new_pipe(store) {
         Ok(pipe) => {
             match inode_of(store, pipe) {
-                Some(inode) => assert_eq!(rt; inode.opens, count_opens(store, pipe)),
+                Some(inode) => assert!(rt; inode.opens == count_opens(store, pipe)),
                 None => panic!(rt; "no inode"),
             }
             pipe

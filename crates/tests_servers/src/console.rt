@@ -37,18 +37,9 @@ fn lines_with_room(rt: &impl Abort, alloc: Global, room: usize) -> Result<Vec<u8
 fn a_line_ends_at_its_line_feed_where_the_room_ends_and_with_the_input(
     rt: HostRuntime,
 ) -> Result<(), Fail> {
-    assert_eq!(rt;
-        lines_with_room(&rt, rt.alloc(), 1)?.as_slice(),
-        b"a|b|\n|c|||".as_slice()
-    );
-    assert_eq!(rt;
-        lines_with_room(&rt, rt.alloc(), 3)?.as_slice(),
-        b"ab\n|c|||||".as_slice()
-    );
-    assert_eq!(rt;
-        lines_with_room(&rt, rt.alloc(), 4096)?.as_slice(),
-        b"ab\n|c|||||".as_slice()
-    );
+    assert!(rt; lines_with_room(&rt, rt.alloc(), 1)?.as_slice() == b"a|b|\n|c|||".as_slice());
+    assert!(rt; lines_with_room(&rt, rt.alloc(), 3)?.as_slice() == b"ab\n|c|||||".as_slice());
+    assert!(rt; lines_with_room(&rt, rt.alloc(), 4096)?.as_slice() == b"ab\n|c|||||".as_slice());
     Ok(())
 }
 
@@ -56,13 +47,13 @@ fn a_line_ends_at_its_line_feed_where_the_room_ends_and_with_the_input(
 fn a_fault_loses_the_bytes_of_its_line_that_were_taken(rt: HostRuntime) -> Result<(), Fail> {
     let mut input = source(rt.alloc(), b"abc\nd", &[2])?;
     let mut into = [0; 8];
-    assert_eq!(rt; read_line(&mut input, &mut into), Err(ReadFault));
-    assert_eq!(rt; into[0], b'a');
-    assert_eq!(rt; into[1], b'b');
-    assert_eq!(rt; into[2], 0);
-    assert_eq!(rt; input.rest(), b"c\nd".as_slice());
-    assert_eq!(rt; read_line(&mut input, &mut into), Ok(2));
-    assert_eq!(rt; into[0], b'c');
+    assert!(rt; read_line(&mut input, &mut into) == Err(ReadFault));
+    assert!(rt; into[0] == b'a');
+    assert!(rt; into[1] == b'b');
+    assert!(rt; into[2] == 0);
+    assert!(rt; input.rest() == b"c\nd".as_slice());
+    assert!(rt; read_line(&mut input, &mut into) == Ok(2));
+    assert!(rt; into[0] == b'c');
     Ok(())
 }
 
@@ -70,10 +61,10 @@ fn a_fault_loses_the_bytes_of_its_line_that_were_taken(rt: HostRuntime) -> Resul
 fn bytes_are_put_at_once_or_not_at_all(rt: HostRuntime) -> Result<(), Fail> {
     let fails = Vec::from_slice(rt.alloc(), &[1])?;
     let mut output = MemSink::new(rt.alloc(), 6, fails)?;
-    assert_eq!(rt; write_bytes(&mut output, b"abcd"), Ok(()));
-    assert_eq!(rt; write_bytes(&mut output, b"e"), Err(WriteFault));
-    assert_eq!(rt; write_bytes(&mut output, b"efg"), Err(WriteFault));
-    assert_eq!(rt; write_bytes(&mut output, b"ef"), Ok(()));
-    assert_eq!(rt; output.bytes(), b"abcdef".as_slice());
+    assert!(rt; write_bytes(&mut output, b"abcd") == Ok(()));
+    assert!(rt; write_bytes(&mut output, b"e") == Err(WriteFault));
+    assert!(rt; write_bytes(&mut output, b"efg") == Err(WriteFault));
+    assert!(rt; write_bytes(&mut output, b"ef") == Ok(()));
+    assert!(rt; output.bytes() == b"abcdef".as_slice());
     Ok(())
 }
