@@ -1,12 +1,26 @@
-use Rattle.std.proofs.Common.{◌≡◌, ◌≢◌, sym, ap, subst, ◌∙◌}
+use Rattle.std.proofs.Common.{◌≡◌, ◌≢◌, ℕ, List, [], Result, Ok, Err, IfOk, sym, ap, subst, ◌∙◌}
+use Rattle.unix_model.specs.declared.calls.Turned.{Turned}
+use Rattle.unix_model.specs.Calls.{call_of}
 use Rattle.unix_model.specs.Process as model
-use Rattle.unix_model.specs.Process.{SentCall}
+use Rattle.unix_model.specs.Process.{Process, SentCall}
+use Rattle.unix_model.specs.State.{Unix, with_process}
+use Rattle.unix_model.specs.Turn.{call_line, turned, ticked}
 use Rattle.flat_state.specs.ProcessView.{phase_of, process_of, sent_call_of}
+use Rattle.flat_state.specs.Settles.{Settles}
 use Rattle.flat_state.specs.StateView.{unix_of}
 use Rattle.flat_unix.specs.Families.{family_of}
 use Rattle.flat_unix.specs.declared.families.Family.TheVariants.{Streams}
-use Rattle.flat_unix.proofs.TurnSteps.{answered-so, if_ok-map, turned-asked, turned-call, turned-done, turned-exiting}
+use Rattle.flat_unix.specs.Turns.{quiet_turn}
+use Rattle.flat_unix.proofs.TurnSteps.{answered-so, turned-asked, turned-call, turned-done, turned-exiting}
 use Rattle.flat_unix.proofs.steps.quiet_step.Goals as goal
+
+-- what a call that touches no stream promises, as the turn that it is
+called-quietly : {E : Type 0} (rest : Unix) (slot : ℕ) (process : Process) (sent : SentCall) → process.phase ≡ model.Sent sent → family_of sent.call ≢ Streams
+    → (state : Unix) (result : Result Turned E)
+    → IfOk result (λ answer. Settles (with_process rest slot process) slot process (call_line (with_process rest slot process) slot process [] sent sent.call) state answer)
+    → IfOk result (λ answer. (bytes : List ℕ) → turned call_of (with_process rest slot process) slot bytes ≡ quiet_turn (ticked state) answer bytes)
+called-quietly rest slot process sent is quiet state (Ok answer) made = λ bytes. turned-call rest slot process bytes sent is quiet state answer made
+called-quietly rest slot process sent is quiet state (Err error) made = tt
 
 pub call-requires-clause-quiet : goal.call-requires-clause-quiet
 call-requires-clause-quiet c =
@@ -21,8 +35,7 @@ pub returns-in_ok-sent-in-Sent : goal.returns-in_ok-sent-in-Sent
 returns-in_ok-sent-in-Sent c =
     let sent : SentCall = sent_call_of c.in_ok-sent-in-Sent.sent in
     let is : phase_of c.args.process.phase ≡ model.Sent sent = ap phase_of c.in-Sent.is ∙ ap model.Sent (sym c.in_ok-sent-in-Sent.ensures.same) in
-    if_ok-map _ _ (λ answer made bytes. turned-call (unix_of c.args.state.now) c.args.slot (process_of c.args.process) bytes sent is (c.requires.quiet sent is) (unix_of c.call.new.state) answer made)
-    c.call.result c.call.ensures
+    called-quietly (unix_of c.args.state.now) c.args.slot (process_of c.args.process) sent is (c.requires.quiet sent is) (unix_of c.call.new.state) c.call.result c.call.ensures
 
 pub returns-in_ok-exit_step-in-Exiting : goal.returns-in_ok-exit_step-in-Exiting
 returns-in_ok-exit_step-in-Exiting c = λ bytes.
