@@ -19,16 +19,22 @@ was-granted false old new granted e = cc
 abbrev with-next : Kernel → Kernel
 with-next kernel = record kernel { machine = with_word_at kernel.machine 12 2 }
 
+-- .. both of them
+both-done : (old mid new : Kernel) (granted : Bool) → granted ≡ true → mid ≡ (if granted then with-promise old else old) → new ≡ with-next mid → new ≡ with-next (with-promise old)
+both-done old mid new granted was after written = written ∙ ap with-next (was-granted granted old mid was after)
+
+both-from : (start old new : Kernel) → old ≡ start → new ≡ with-next (with-promise old) → new ≡ with-next (with-promise start)
+both-from start old new made done = done ∙ ap (λ (k : Kernel). with-next (with-promise k)) made
+
 pub returns-clause-begun : goal.returns-clause-begun
 unfolding promised_bank empty_bank
 returns-clause-begun g c =
     let k0 = kernel_of (g.T.Store.memory c.setup.new.store) in
     let k1 = kernel_of (g.T.Store.memory c.promise-granted.new.store) in
     let k2 = kernel_of (g.T.Store.memory c.set_machine_word.new.store) in
-    let promised : k1 ≡ with-promise k0 = was-granted c.promise-granted.result k0 k1 c.if-prove.false c.promise-granted.ensures.after in
-    let now : k2 ≡ with-next (with-promise k0) = c.set_machine_word.ensures.written ∙ ap with-next promised in
+    let now : k2 ≡ with-next (with-promise k0) = both-done k0 k1 k2 c.promise-granted.result c.if-prove.false c.promise-granted.ensures.after c.set_machine_word.ensures.written in
     record {
-      is = now ∙ ap (λ (k : Kernel). with-next (with-promise k)) c.setup.ensures.made;
+      is = both-from (empty_bank c.args.pages c.args.quantum) k0 k2 c.setup.ensures.made now;
       good = c.set_machine_word.ensures.good;
       shares = subst (λ (k : Kernel). Shares k nothing_outside []) (sym now) c.setup.ensures.shares;
       unused = subst (λ (k : Kernel). UnusedGood k.page_zero k.other_words) (sym now) c.setup.ensures.unused;
