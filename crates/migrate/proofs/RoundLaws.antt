@@ -1,5 +1,5 @@
 -- One interval more.
-use Rattle.std.proofs.Common.{◌≡◌, ⊎_elim, ℕ, ◌+◌, ◌≤◌, ◌<◌, Bool, List, length, sym, ◌∙◌, ap, subst, arith}
+use Rattle.std.proofs.Common.{◌≡◌, ⊎_elim, ℕ, ◌+◌, ◌≤◌, ◌<◌, Bool, List, length, sym, ◌∙◌, ap, subst, add-zero, arith}
 use Rattle.kn_disk.specs.Images.{LeavesOnly}
 use Rattle.kn_disk.proofs.RunLaws.{leaves-joined, leaves-wider}
 use Rattle.obj_store.specs.Ram.{Ram}
@@ -35,6 +35,22 @@ blocks-cleaned ram new marks e = ap (λ (r : Ram). r.blocks) e
 -- one of these intervals is one of more
 pub one-wider : (plan : ℕ → List (List ℕ)) (first : List ℕ) (g from most low high : ℕ) (c : List ℕ) → low ≤ from → most ≤ high → HoldsOne plan first g from most c → HoldsOne plan first g low high c
 one-wider plan first g from most low high c l h s = record { j = s.j; least = omega (arith, l, s.least); few = omega (arith, h, s.few); label = s.label; holds = s.holds }
+
+-- what the disk holds before the first interval
+pub held-first : (plan : ℕ → List (List ℕ)) (g : ℕ) (contents : List ℕ) (blocks : List (List ℕ)) → plan 0 ≡ blocks → raw contents ≡ Machine g blocks → raw contents ≡ Machine (g + 0) (plan 0)
+held-first plan g contents blocks none held = held ∙ ap (Machine g) (sym none) ∙ ap (λ n. Machine n (plan 0)) (sym (add-zero g))
+
+-- .. and once the interval after i was saved
+pub held-next : (plan : ℕ → List (List ℕ)) (g i generation : ℕ) (contents : List ℕ) (now : List (List ℕ)) → generation ≡ g + i → now ≡ plan (i + 1) → raw contents ≡ Machine (generation + 1) now → raw contents ≡ Machine (g + (i + 1)) (plan (i + 1))
+held-next plan g i generation contents now is e held = held ∙ ap (Machine (generation + 1)) e ∙ ap (λ n. Machine n (plan (i + 1))) (omega (arith, is))
+
+-- The blocks that an interval leaves are the next of the plan, and what is planned behind them follows it.
+module _ (plan before : ℕ → List (List ℕ)) (after : List (List ℕ) → ℕ → List (List ℕ)) (now : List (List ℕ)) (i : ℕ) (goes : (n : ℕ) → before n ≡ plan (i + n)) (steps : (n : ℕ) → after now n ≡ before (n + 1)) where
+  pub next-planned : after now 0 ≡ now → now ≡ plan (i + 1)
+  next-planned none = sym none ∙ steps 0 ∙ goes (0 + 1)
+
+  pub plan-goes-on : (kept : List (List ℕ)) → kept ≡ now → (n : ℕ) → after kept n ≡ plan (i + 1 + n)
+  plan-goes-on kept same n = ap (λ (blocks : List (List ℕ)). after blocks n) same ∙ steps n ∙ goes (n + 1) ∙ ap plan (omega arith)
 
 -- The disk holds interval i, and the store the one after it.
 module _ (plan : ℕ → List (List ℕ)) (first : List ℕ) (g i : ℕ) (contents : List ℕ) (label : label_in contents ≡ label_in first) (held : raw contents ≡ Machine (g + i) (plan i)) where

@@ -5,7 +5,7 @@ use Rattle.obj_store.specs.Store.{ram_of}
 use Rattle.disk_layout.specs.Saved.{raw, Machine}
 use Rattle.checkpoint.specs.Commit.{SavedOr}
 use Rattle.migrate.proofs.StoreLaws.{turns-keep, stores-image}
-use Rattle.migrate.proofs.RoundLaws.{sizes-same, sizes-cleaned, pages-cleaned, blocks-cleaned, one-wider, one_same, one_more, round-leaves}
+use Rattle.migrate.proofs.RoundLaws.{sizes-same, sizes-cleaned, pages-cleaned, blocks-cleaned, held-first, held-next, next-planned, plan-goes-on, one-wider, one_same, one_more, round-leaves}
 use Rattle.migrate.proofs.rounds.run.Goals as goal
 
 pub rounds-init : goal.rounds-init
@@ -18,9 +18,7 @@ rounds-init g c = record {
   plan = λ n. ap (g.M.Turns.plan c.args.machine.now (ram_of c.args.store.now).blocks) (sym (zero-add n));
   stores = c.requires.stores;
   label = λ told. refl;
-  holds = λ told.
-      c.requires.saved told ∙ ap (Machine c.args.at.now.generation) (sym (g.met.M.Turns.plan_none c.args.machine.now (ram_of c.args.store.now).blocks))
-      ∙ ap (λ n. Machine n (g.M.Turns.plan c.args.machine.now (ram_of c.args.store.now).blocks 0)) (sym (add-zero c.args.at.now.generation));
+  holds = λ told. held-first (g.M.Turns.plan c.args.machine.now (ram_of c.args.store.now).blocks) c.args.at.now.generation (g.D.Disk.contents c.args.disk.now) (ram_of c.args.store.now).blocks (g.met.M.Turns.plan_none c.args.machine.now (ram_of c.args.store.now).blocks) (c.requires.saved told);
   leaves = λ told. leaves-none g.D.Disk.moment g.D.Disk.image g.D.Disk.since _ _;
   same = refl;
 }
@@ -34,21 +32,17 @@ save-requires-clause-stores g c told =
 pub rounds-preserved : goal.rounds-preserved
 rounds-preserved g c =
     let inv = c.rounds.invariant in
-    let e : (ram_of c.interval.new.store).blocks ≡ g.M.Turns.plan c.args.machine.now (ram_of c.args.store.now).blocks (c.rounds.i + 1) = sym (g.met.M.Turns.plan_none c.interval.new.self (ram_of c.interval.new.store).blocks) ∙ c.interval.ensures.plan 0 ∙ inv.plan (0 + 1) in
+    let e : (ram_of c.interval.new.store).blocks ≡ g.M.Turns.plan c.args.machine.now (ram_of c.args.store.now).blocks (c.rounds.i + 1) = next-planned (g.M.Turns.plan c.args.machine.now (ram_of c.args.store.now).blocks) (g.M.Turns.plan c.rounds.machine (ram_of c.rounds.store).blocks) (g.M.Turns.plan c.interval.new.self) (ram_of c.interval.new.store).blocks c.rounds.i inv.plan c.interval.ensures.plan (g.met.M.Turns.plan_none c.interval.new.self (ram_of c.interval.new.store).blocks) in
     record {
       generation = omega (arith, c.in-Ok.ensures.generation, inv.generation);
       sizes = sizes-cleaned (ram_of c.interval.new.store) (ram_of c.save.new.store) _ c.in-Ok.ensures.cleaned c.interval.ensures.sizes;
       pages = inv.pages ∙ sym c.interval.ensures.pages ∙ sym (pages-cleaned (ram_of c.interval.new.store) (ram_of c.save.new.store) _ c.in-Ok.ensures.cleaned);
       order = c.in-Ok.ensures.order;
       few = c.in-Ok.ensures.few;
-      plan = λ n.
-          ap (λ (blocks : List (List ℕ)). g.M.Turns.plan c.interval.new.self blocks n) (blocks-cleaned (ram_of c.interval.new.store) (ram_of c.save.new.store) _ c.in-Ok.ensures.cleaned)
-          ∙ c.interval.ensures.plan n ∙ inv.plan (n + 1) ∙ ap (g.M.Turns.plan c.args.machine.now (ram_of c.args.store.now).blocks) (omega arith);
+      plan = plan-goes-on (g.M.Turns.plan c.args.machine.now (ram_of c.args.store.now).blocks) (g.M.Turns.plan c.rounds.machine (ram_of c.rounds.store).blocks) (g.M.Turns.plan c.interval.new.self) (ram_of c.interval.new.store).blocks c.rounds.i inv.plan c.interval.ensures.plan (ram_of c.save.new.store).blocks (blocks-cleaned (ram_of c.interval.new.store) (ram_of c.save.new.store) _ c.in-Ok.ensures.cleaned);
       stores = c.in-Ok.ensures.stores;
       label = λ told. c.in-Ok.ensures.label told ∙ inv.label told;
-      holds = λ told.
-          c.in-Ok.ensures.saved told ∙ ap (Machine (c.rounds.at.generation + 1)) e
-          ∙ ap (λ n. Machine n (g.M.Turns.plan c.args.machine.now (ram_of c.args.store.now).blocks (c.rounds.i + 1))) (omega (arith, inv.generation));
+      holds = λ told. held-next (g.M.Turns.plan c.args.machine.now (ram_of c.args.store.now).blocks) c.args.at.now.generation c.rounds.i c.rounds.at.generation (g.D.Disk.contents c.save.new.disk) (ram_of c.interval.new.store).blocks inv.generation e (c.in-Ok.ensures.saved told);
       leaves = λ told.
           round-leaves (g.M.Turns.plan c.args.machine.now (ram_of c.args.store.now).blocks) (g.D.Disk.contents c.args.disk.now) c.args.at.now.generation c.rounds.i (g.D.Disk.contents c.rounds.disk) (inv.label told) (inv.holds told) (ram_of c.interval.new.store).blocks e
           g.D.Disk.moment g.D.Disk.image g.D.Disk.since c.args.intervals c.rounds-test.true _ _ _ (inv.leaves told)
@@ -59,9 +53,9 @@ rounds-preserved g c =
 pub returns-in-Err-clause-each : goal.returns-in-Err-clause-each
 returns-in-Err-clause-each g c told =
     let inv = c.rounds.invariant in
-    let e : (ram_of c.interval.new.store).blocks ≡ g.M.Turns.plan c.args.machine.now (ram_of c.args.store.now).blocks (c.rounds.i + 1) = sym (g.met.M.Turns.plan_none c.interval.new.self (ram_of c.interval.new.store).blocks) ∙ c.interval.ensures.plan 0 ∙ inv.plan (0 + 1) in
+    let e : (ram_of c.interval.new.store).blocks ≡ g.M.Turns.plan c.args.machine.now (ram_of c.args.store.now).blocks (c.rounds.i + 1) = next-planned (g.M.Turns.plan c.args.machine.now (ram_of c.args.store.now).blocks) (g.M.Turns.plan c.rounds.machine (ram_of c.rounds.store).blocks) (g.M.Turns.plan c.interval.new.self) (ram_of c.interval.new.store).blocks c.rounds.i inv.plan c.interval.ensures.plan (g.met.M.Turns.plan_none c.interval.new.self (ram_of c.interval.new.store).blocks) in
     let held : raw (g.D.Disk.contents c.args.disk.now) ≡ Machine (c.args.at.now.generation + 0) (g.M.Turns.plan c.args.machine.now (ram_of c.args.store.now).blocks 0) =
-    c.requires.saved told ∙ ap (Machine c.args.at.now.generation) (sym (g.met.M.Turns.plan_none c.args.machine.now (ram_of c.args.store.now).blocks)) ∙ ap (λ n. Machine n (g.M.Turns.plan c.args.machine.now (ram_of c.args.store.now).blocks 0)) (sym (add-zero c.args.at.now.generation)) in
+    held-first (g.M.Turns.plan c.args.machine.now (ram_of c.args.store.now).blocks) c.args.at.now.generation (g.D.Disk.contents c.args.disk.now) (ram_of c.args.store.now).blocks (g.met.M.Turns.plan_none c.args.machine.now (ram_of c.args.store.now).blocks) (c.requires.saved told) in
     each-since g.D.Disk.moment g.D.Disk.image g.D.Disk.since g.met.D.Disk.only_now _ _ _
     (λ image now. one-wider _ _ _ 0 0 0 c.args.intervals image (omega arith) (omega arith) (one_same _ _ _ 0 _ refl held image (stores-image _ _ _ _ _ _ _ (c.requires.stores told) image now)))
     (round-leaves (g.M.Turns.plan c.args.machine.now (ram_of c.args.store.now).blocks) (g.D.Disk.contents c.args.disk.now) c.args.at.now.generation c.rounds.i (g.D.Disk.contents c.rounds.disk) (inv.label told) (inv.holds told) (ram_of c.interval.new.store).blocks e
@@ -71,7 +65,7 @@ returns-in-Err-clause-each g c told =
 pub returns-in-Err-clause-now : goal.returns-in-Err-clause-now
 returns-in-Err-clause-now g c told image now =
     let inv = c.rounds.invariant in
-    let e : (ram_of c.interval.new.store).blocks ≡ g.M.Turns.plan c.args.machine.now (ram_of c.args.store.now).blocks (c.rounds.i + 1) = sym (g.met.M.Turns.plan_none c.interval.new.self (ram_of c.interval.new.store).blocks) ∙ c.interval.ensures.plan 0 ∙ inv.plan (0 + 1) in
+    let e : (ram_of c.interval.new.store).blocks ≡ g.M.Turns.plan c.args.machine.now (ram_of c.args.store.now).blocks (c.rounds.i + 1) = next-planned (g.M.Turns.plan c.args.machine.now (ram_of c.args.store.now).blocks) (g.M.Turns.plan c.rounds.machine (ram_of c.rounds.store).blocks) (g.M.Turns.plan c.interval.new.self) (ram_of c.interval.new.store).blocks c.rounds.i inv.plan c.interval.ensures.plan (g.met.M.Turns.plan_none c.interval.new.self (ram_of c.interval.new.store).blocks) in
     let left = g.met.D.Disk.counts_now c.save.new.disk (g.D.Disk.moment c.rounds.disk) image (c.save.ensures.leaves told).later now in
     let saved = subst (λ n. SavedOr (g.D.Disk.contents c.rounds.disk) (n + 1) (ram_of c.interval.new.store).blocks image) inv.generation (c.save.ensures.each told image left) in
     one-wider _ _ _ c.rounds.i (c.rounds.i + 1) c.rounds.i _ image (omega arith) (omega (arith, c.rounds-test.true))
@@ -80,7 +74,7 @@ returns-in-Err-clause-now g c told image now =
 pub returns-clause-each : goal.returns-clause-each
 returns-clause-each g c told =
     let held : raw (g.D.Disk.contents c.args.disk.now) ≡ Machine (c.args.at.now.generation + 0) (g.M.Turns.plan c.args.machine.now (ram_of c.args.store.now).blocks 0) =
-    c.requires.saved told ∙ ap (Machine c.args.at.now.generation) (sym (g.met.M.Turns.plan_none c.args.machine.now (ram_of c.args.store.now).blocks)) ∙ ap (λ n. Machine n (g.M.Turns.plan c.args.machine.now (ram_of c.args.store.now).blocks 0)) (sym (add-zero c.args.at.now.generation)) in
+    held-first (g.M.Turns.plan c.args.machine.now (ram_of c.args.store.now).blocks) c.args.at.now.generation (g.D.Disk.contents c.args.disk.now) (ram_of c.args.store.now).blocks (g.met.M.Turns.plan_none c.args.machine.now (ram_of c.args.store.now).blocks) (c.requires.saved told) in
     each-since g.D.Disk.moment g.D.Disk.image g.D.Disk.since g.met.D.Disk.only_now _ _ _
     (λ image now. one-wider _ _ _ 0 0 0 c.args.intervals image (omega arith) (omega arith) (one_same _ _ _ 0 _ refl held image (stores-image _ _ _ _ _ _ _ (c.requires.stores told) image now)))
     (c.rounds.invariant.leaves told)
