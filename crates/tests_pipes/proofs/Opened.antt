@@ -8,6 +8,7 @@ use Rattle.kernel_tables.specs.declared.row.Row.{Row}
 use Rattle.kernel_tables.specs.declared.row.Row.TheVariants.{Used}
 use Rattle.kernel_tables.specs.Kernel.{Kernel, inode_at}
 use Rattle.space_bank.specs.Bank.{BankGood}
+use Rattle.file_tables.specs.Numbers.{TakesDescription}
 use Rattle.file_tables.specs.Rows.{DescriptionsGood, InodesGood, IsInodeAt, IsOfKind, IsPipe}
 use Rattle.kernel_machine.specs.Counts.{opens}
 use Rattle.kernel_machine.specs.Machine.{machine_of}
@@ -27,6 +28,10 @@ opens-right pipe inode count kind right =
       root_kind = right.root_kind;
       root_parent = right.root_parent;
     }
+
+-- what the tables are once a description has been taken, told of them themselves
+pub has-opened : (old mid : Kernel) {description : Description} {number : ℕ} → TakesDescription old mid description number → mid ≡ record old { descriptions = mid.descriptions }
+has-opened old mid taken = subst (λ (k : Kernel). k ≡ record old { descriptions = k.descriptions }) (sym taken.state) refl
 
 module _ (old mid : Kernel) (pipe count : ℕ) (inode : Inode) (rows : List (Row Description)) (good : PipeGood old pipe) (opened : mid ≡ record old { descriptions = rows })
     (read : inode_at mid pipe ≡ Used inode) where
