@@ -28,7 +28,7 @@ use Rattle.space_bank.specs.Shares.{Outside, PutsPageInHand}
 use Rattle.file_tables.specs.Laws.{WritesFiles}
 use Rattle.file_tables.specs.Numbers.{least_free_inode}
 use Rattle.file_tables.specs.Roots.{named_by, pipe_key, root_key, ExchangesRoots}
-use Rattle.file_tables.specs.Rows.{IsInodeAt, InodesGood}
+use Rattle.file_tables.specs.Rows.{IsInodeAt, IsInodeRow, InodesGood}
 use Rattle.file_tables.proofs.PageLaws.{page_taken}
 use Rattle.file_tables.proofs.RootLaws.{handed_over}
 use Rattle.forest.specs.Forest.{masked}
@@ -49,13 +49,38 @@ use Rattle.pipe_domain.specs.Made.{MakesPipe, empty_pipe, made_blocks, with_prom
 use Rattle.pipe_domain.specs.Pipes.{HasRing, IsPipeAt, IsSeenWith, pipe_at, queue, row_inode}
 
 -- the inode of an empty pipe may stand at any number from 2 on
-pub empty-right : (pipe page : ℕ) → 2 ≤ pipe → IsInodeAt pipe (empty_pipe page)
+empty-right : (pipe page : ℕ) → 2 ≤ pipe → IsInodeAt pipe (empty_pipe page)
 empty-right pipe page low = record {
   of_kind = record { length = omega arith; start = omega arith; no_parent = refl };
   console = (λ e. cc, λ e. absurd (omega (arith, e, low)));
   root_kind = λ e. absurd (omega (arith, e, low));
   root_parent = λ e. absurd (omega (arith, e, low));
 }
+
+pub empty-at : (pipe page : ℕ) (inode : Inode) → inode ≡ empty_pipe page → 2 ≤ pipe → IsInodeAt pipe inode
+empty-at pipe page inode is low = subst (λ (i : Inode). IsInodeAt pipe i) (sym is) (empty-right pipe page low)
+
+-- what a row may be at a number is what a free one may be there, where it is free
+pub free-row : (pipe : ℕ) (row : Row Inode) → row ≡ Free → IsInodeRow pipe row → IsInodeRow pipe Free
+free-row pipe row free right = subst (IsInodeRow pipe) free right
+
+-- What is said of the tables after a promise, told of the tables with a page more promised.
+module _ (old one : Kernel) (promised : one ≡ with_promise old) where
+  pub good-then : BankGood one → BankGood (with_promise old)
+  good-then good = subst BankGood promised good
+
+  pub full-then : one.size ≤ one.machine.pages_taken → old.size ≤ old.machine.pages_taken
+  full-then full = subst (λ (k : Kernel). k.size ≤ k.machine.pages_taken) promised full
+
+  module _ (two : Kernel) (page : ℕ) where
+    pub takes-then : TakesPage one two page PipePage → TakesPage (with_promise old) two page PipePage
+    takes-then takes = subst (λ (k : Kernel). TakesPage k two page PipePage) promised takes
+
+    pub hand-then : PutsPageInHand one two page → PutsPageInHand (with_promise old) two page
+    hand-then hand = subst (λ (k : Kernel). PutsPageInHand k two page) promised hand
+
+  pub blocks-then : (b1 b2 : List (List ℕ)) (page : ℕ) → ChangesBlocks b1 b2 (page_entry_block (page - first_page one.size) ∷ machine_block ∷ []) → ChangesBlocks b1 b2 (page_entry_block (page - first_page old.size) ∷ machine_block ∷ [])
+  blocks-then b1 b2 page changes = subst (λ (k : Kernel). ChangesBlocks b1 b2 (page_entry_block (page - first_page k.size) ∷ machine_block ∷ [])) promised changes
 
 -- keys of trees don't hang on who owns pages
 keys-same : (kernel : Kernel) (entries : List (Entry PageOwner)) → (forest_of (record kernel { page_entries = entries })).keys ≡ (forest_of kernel).keys
