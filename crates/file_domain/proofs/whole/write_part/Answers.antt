@@ -1,4 +1,4 @@
-use Rattle.std.proofs.Common.{◌≡◌, Err, length, refl, subst, sym, arith}
+use Rattle.std.proofs.Common.{◌≡◌, ◌+◌, Err, length, refl, subst, sym, arith}
 use Rattle.unix_model.specs.declared.calls.Errno.{Errno}
 use Rattle.kernel_tables.specs.Kernel.{kernel_of}
 use Rattle.kernel_tables.proofs.Sizes.{length-memory_page}
@@ -30,7 +30,7 @@ returns-in-Ok-clause-written g c =
     (record { whole = λ page which. length-memory_page (g.T.Store.memory c.args.store.now) page standing.bank.sized which (g.met.T.Store.page_length c.args.store.now) }) in
     let long : length (stored (machine_of old) c.args.inode) ≡ c.args.inode.length = file-long (tree_memory old c.args.inode.root) whole c.args.inode.length in
     let past = c.if-at-count.false in
-    part_past old (kernel_of (g.T.Store.memory c.grow.new.store)) (kernel_of (g.T.Store.memory c.put_all-in-Ok.new.store)) c.args.file c.args.at c.args.part.now c.args.inode _ c.requires.below
+    part_past old (kernel_of (g.T.Store.memory c.grow.new.store)) (kernel_of (g.T.Store.memory c.put_all-in-Ok.new.store)) c.args.file c.args.at c.args.part.now c.args.inode (record c.args.inode { length = c.args.at + length c.args.part.now }) c.requires.below
     c.in-Ok.ensures.grown c.put_all-in-Ok.ensures.put refl (omega arith) (length c.args.part.now) refl
 
 pub returns-in-Err-clause-written : goal.returns-in-Err-clause-written

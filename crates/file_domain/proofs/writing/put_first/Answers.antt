@@ -1,8 +1,8 @@
-use Rattle.std.proofs.Common.{◌/◌, ap, sym, arith}
-use Rattle.kernel_tables.specs.Kernel.{Kernel, kernel_of}
+use Rattle.std.proofs.Common.{◌/◌, sym, arith}
+use Rattle.kernel_tables.specs.Kernel.{kernel_of}
 use Rattle.kernel_tables.proofs.Sizes.{length-inodes}
 use Rattle.kernel_machine.proofs.OwnerLaws.{store_is_whole}
-use Rattle.file_domain.proofs.First.{is1, owner1, puts_first_by}
+use Rattle.file_domain.proofs.First.{is1, owner1, puts_first_by, rest-nodes, rest-pages, rest-size}
 use Rattle.file_trees.proofs.Accounting.{nodes_left}
 use Rattle.file_domain.proofs.Puts.{page_left}
 use Rattle.file_domain.proofs.Seen.{file_row, rooted_row}
@@ -33,7 +33,7 @@ pub put_piece-requires-clause-room : goal.put_piece-requires-clause-room
 put_piece-requires-clause-room g c =
     let left = nodes_left (kernel_of (g.T.Store.memory c.args.store.now)) c.requires.good in
     let number = c.new_space-tree.ensures.added.number in
-    let nodes = ap (λ (k : Kernel). k.nodes) c.new_space-tree.ensures.added.rest in
+    let nodes = rest-nodes (kernel_of (g.T.Store.memory c.args.store.now)) (kernel_of (g.T.Store.memory c.new_space-tree.new.store)) c.new_space-tree.ensures.added.rest in
     omega arith
 
 pub put_piece-requires-clause-page_room : goal.put_piece-requires-clause-page_room
@@ -41,8 +41,8 @@ put_piece-requires-clause-page_room g c shared =
     let within = c.requires.within in
     let some = c.requires.some in
     let less = page_left (kernel_of (g.T.Store.memory c.args.store.now)) c.args.file (c.args.at / 4096) c.args.inode c.requires.good c.requires.file (omega arith) (λ found real own. absurd (real c.requires.root)) in
-    let pages = ap (λ (k : Kernel). k.machine.pages_taken) c.new_space-tree.ensures.added.rest in
-    let size = ap (λ (k : Kernel). k.size) c.new_space-tree.ensures.added.rest in
+    let pages = rest-pages (kernel_of (g.T.Store.memory c.args.store.now)) (kernel_of (g.T.Store.memory c.new_space-tree.new.store)) c.new_space-tree.ensures.added.rest in
+    let size = rest-size (kernel_of (g.T.Store.memory c.args.store.now)) (kernel_of (g.T.Store.memory c.new_space-tree.new.store)) c.new_space-tree.ensures.added.rest in
     omega arith
 
 pub set_inode-requires-clause-right : goal.set_inode-requires-clause-right
