@@ -1,7 +1,7 @@
 -- A name is found, or no place has it.
-use Rattle.std.proofs.Common.{◌≡◌, ◌≢◌, ℕ, ◌+◌, ◌*◌, ◌/◌, ◌-◌, ◌^◌, ◌<◌, ◌≤◌, Bool, true, false, Option, Some, None, List, ◌∷◌, ◌++◌, length, take, drop, set, refl, ap, ap₂, sym, ◌∙◌, arith}
+use Rattle.std.proofs.Common.{◌≡◌, ◌≢◌, ℕ, ◌+◌, ◌*◌, ◌/◌, ◌-◌, ◌^◌, ◌<◌, ◌≤◌, Bool, true, false, Option, Some, None, List, ◌∷◌, ◌++◌, length, take, drop, set, Result, refl, ap, ap₂, sym, subst, ◌∙◌, arith}
 use Rattle.std.specs.Int.{from_le_bytes, to_le_bytes, w32}
-use Rattle.std.specs.Prelude.{◌%◌, slice_index, bytes_eq, replicate, is_none, is_some, Ok, Err}
+use Rattle.std.specs.Prelude.{◌%◌, slice_index, bytes_eq, replicate, is_none, is_some, Ok, Err, IfOk}
 use Rattle.std.proofs.lemmas.Nat.{from_le_bytes-to_le_bytes_4}
 use Rattle.std.proofs.lemmas.Slice.Eq.{bytes_eq-Decides}
 use Rattle.std.proofs.lemmas.List.{take_all, take-append-le, length-drop}
@@ -18,7 +18,7 @@ use Rattle.kernel_machine.specs.Standing.{Standing}
 use Rattle.kernel_machine.proofs.PagesHeld.{places-long}
 use Rattle.file_trees.specs.Trees.{tree_memory, tree_page}
 use Rattle.file_trees.proofs.Pages.{page_absent, zero_part}
-use Rattle.dir_domain.specs.Changes.{entry_of, name_told}
+use Rattle.dir_domain.specs.Changes.{ChangesPlaces, entry_of, name_told}
 use Rattle.dir_domain.specs.Places.{numbered_place, has_name}
 use Rattle.dir_domain.specs.Rows.{IsDirectoryRow, places_seen, bytes_stored}
 use Rattle.dir_domain.proofs.FoundPlaces.{first-named, get-place, drop-here}
@@ -158,3 +158,12 @@ hole-test bytes = go (bytes_eq bytes (replicate 32 0)) refl
     go : (hole : Bool) → bytes_eq bytes (replicate 32 0) ≡ hole → bytes_eq bytes (replicate 32 0) ≡ is_none (place_in bytes)
     go true e = rw e refl
     go false e = rw e refl
+
+-- the place of an entry's bytes
+pub entry-put : (name : List ℕ) (inode : ℕ) (bytes : List ℕ) → bytes ≡ entry_bytes (entry_of name inode) → 1 ≤ length name → length name ≤ 27 → inode < 2 ^ 32 → place_in bytes ≡ Some (entry_of name inode)
+entry-put name inode bytes is some few fits = ap place_in is ∙ entry-place name inode some few fits
+
+-- a place that was put may be told in another way
+pub put-told : {E : Type 0} (old new : Kernel) (dir : ℕ) (name : List ℕ) (place told : Option Entry) (result : Result ℕ E) → place ≡ told
+    → IfOk result (λ inode. ChangesPlaces old new dir (with_place (places_seen old dir) name place)) → IfOk result (λ inode. ChangesPlaces old new dir (with_place (places_seen old dir) name told))
+put-told old new dir name place told result is changed = subst (λ (p : Option Entry). IfOk result (λ inode. ChangesPlaces old new dir (with_place (places_seen old dir) name p))) is changed

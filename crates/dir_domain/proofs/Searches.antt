@@ -5,6 +5,8 @@ use Rattle.kn_base.specs.Rows.{part_at}
 use Rattle.unix_model.specs.Files.{place_inode}
 use Rattle.unix_model.specs.Memory.{Memory}
 use Rattle.unix_model.specs.Tables.{at, least_below, option_or}
+use Rattle.unix_model.proofs.TableLaws.{least_below-zero}
+use Rattle.file_tables.proofs.LeastLaws.{least_stays}
 use Rattle.kernel_machine.specs.Contents.{file_in, mapped_bytes, place_in}
 use Rattle.file_trees.proofs.Contents.{piece_here}
 use Rattle.dir_domain.specs.Places.{numbered_place, has_name, is_hole}
@@ -47,6 +49,14 @@ least-inside test (suc n) k e = ⊎_elim
     (λ (here : k ≡ n). omega arith)
     (or-some (least_below test n) (test n) n k e)
 
+-- .. as is one that was found
+pub found-inside : (test : ℕ → Bool) (n k : ℕ) → Some k ≡ least_below test n → k < n
+found-inside test n k e = least-inside test n k (sym e)
+
+-- nothing was searched yet
+pub least-of-none : (test : ℕ → Bool) (n : ℕ) → n ≡ 0 → least_below test n ≡ None
+least-of-none test n none = ap (least_below test) none ∙ least_below-zero test
+
 -- ---- places of a page
 
 pub place-here : (memory : Memory) → ((number : ℕ) → length (mapped_bytes (at memory number)) ≡ 4096) → (size page k : ℕ) → k < 128 → 32 * (128 * page + k) + 32 ≤ size
@@ -71,6 +81,25 @@ named-so-far memory name page_bytes whole size page count here found is few with
     ∙ ap (λ x. option_or x (option_map (λ k. 128 * page + k) (least_below (has_name name page_bytes) here))) before
     ∙ ap (option_map (λ k. 128 * page + k)) (sym e)
 
+-- .. and so far as the pages go: what was searched before, and what is searched next
+pub named-next : (memory : Memory) (name page_bytes : List ℕ) → ((number : ℕ) → length (mapped_bytes (at memory number)) ≡ 4096) → (size page count here : ℕ) (found : Option ℕ)
+    → page_bytes ≡ mapped_bytes (at memory page) → here ≤ 128 → 128 * page + here ≤ count → 32 * count ≤ size
+    → (before next : ℕ) → before ≡ 128 * page → next ≡ 128 * page + here → least_below (has_name name (file_in memory size)) before ≡ None
+    → found ≡ least_below (has_name name page_bytes) here → least_below (has_name name (file_in memory size)) next ≡ option_map (λ k. 128 * page + k) found
+named-next memory name page_bytes whole size page count here found is few within fits before next so_far next_is none e =
+    ap (least_below (has_name name (file_in memory size))) next_is
+    ∙ named-so-far memory name page_bytes whole size page count here found is few within fits (sym (ap (least_below (has_name name (file_in memory size))) so_far) ∙ none) e
+
+-- .. the first one of a page, once no page before it has one
+pub named-first : (memory : Memory) (name page_bytes : List ℕ) → ((number : ℕ) → length (mapped_bytes (at memory number)) ≡ 4096) → (size page count here k : ℕ)
+    → page_bytes ≡ mapped_bytes (at memory page) → here ≤ 128 → 128 * page + here ≤ count → 32 * count ≤ size
+    → (before : ℕ) → before ≡ 128 * page → least_below (has_name name (file_in memory size)) before ≡ None
+    → Some k ≡ least_below (has_name name page_bytes) here → Some (128 * page + k) ≡ least_below (has_name name (file_in memory size)) count
+named-first memory name page_bytes whole size page count here k is few within fits before so_far none e =
+    sym
+    (least_stays (has_name name (file_in memory size)) (128 * page + here) (128 * page + k) count within
+    (named-next memory name page_bytes whole size page count here (Some k) is few within fits before (128 * page + here) so_far refl none e))
+
 -- .. or for a hole
 pub holes-so-far : (memory : Memory) (page_bytes : List ℕ) → ((number : ℕ) → length (mapped_bytes (at memory number)) ≡ 4096) → (size page count here : ℕ) (found : Option ℕ)
     → page_bytes ≡ mapped_bytes (at memory page) → here ≤ 128 → 128 * page + here ≤ count → 32 * count ≤ size
@@ -83,3 +112,22 @@ holes-so-far memory page_bytes whole size page count here found is few within fi
     (λ k below. ap is_none (place-here memory whole size page k (omega arith) (omega arith) ∙ ap (λ bytes. numbered_place bytes k) (sym is)))
     ∙ ap (λ x. option_or x (option_map (λ k. 128 * page + k) (least_below (is_hole page_bytes) here))) before
     ∙ ap (option_map (λ k. 128 * page + k)) (sym e)
+
+-- .. and so far as the pages go: what was searched before, and what is searched next
+pub holes-next : (memory : Memory) (page_bytes : List ℕ) → ((number : ℕ) → length (mapped_bytes (at memory number)) ≡ 4096) → (size page count here : ℕ) (found : Option ℕ)
+    → page_bytes ≡ mapped_bytes (at memory page) → here ≤ 128 → 128 * page + here ≤ count → 32 * count ≤ size
+    → (before next : ℕ) → before ≡ 128 * page → next ≡ 128 * page + here → least_below (is_hole (file_in memory size)) before ≡ None
+    → found ≡ least_below (is_hole page_bytes) here → least_below (is_hole (file_in memory size)) next ≡ option_map (λ k. 128 * page + k) found
+holes-next memory page_bytes whole size page count here found is few within fits before next so_far next_is none e =
+    ap (least_below (is_hole (file_in memory size))) next_is
+    ∙ holes-so-far memory page_bytes whole size page count here found is few within fits (sym (ap (least_below (is_hole (file_in memory size))) so_far) ∙ none) e
+
+-- .. the first one of a page, once no page before it has one
+pub holes-first : (memory : Memory) (page_bytes : List ℕ) → ((number : ℕ) → length (mapped_bytes (at memory number)) ≡ 4096) → (size page count here k : ℕ)
+    → page_bytes ≡ mapped_bytes (at memory page) → here ≤ 128 → 128 * page + here ≤ count → 32 * count ≤ size
+    → (before : ℕ) → before ≡ 128 * page → least_below (is_hole (file_in memory size)) before ≡ None
+    → Some k ≡ least_below (is_hole page_bytes) here → Some (128 * page + k) ≡ least_below (is_hole (file_in memory size)) count
+holes-first memory page_bytes whole size page count here k is few within fits before so_far none e =
+    sym
+    (least_stays (is_hole (file_in memory size)) (128 * page + here) (128 * page + k) count within
+    (holes-next memory page_bytes whole size page count here (Some k) is few within fits before (128 * page + here) so_far refl none e))

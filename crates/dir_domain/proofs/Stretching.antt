@@ -16,6 +16,8 @@ use Rattle.kernel_forest.specs.Trees.{forest_of}
 use Rattle.file_tables.specs.Roots.{ExchangesRoots}
 use Rattle.file_tables.specs.Rows.{InodesGood, IsInodeAt, IsOfKind, IsDirectory}
 use Rattle.unix_model.specs.Files as model
+use Rattle.forest.specs.Calls.{IsOwn}
+use Rattle.forest.specs.Walks.{Mapping}
 use Rattle.unix_model.specs.Files.{Entry, parent_of, with_inode, with_places}
 use Rattle.unix_model.specs.State.{Unix, with_files}
 use Rattle.unix_model.specs.Tables.{at, with_at}
@@ -45,6 +47,21 @@ right-with dir row root size right kind few whole =
       root_kind = right.root_kind;
       root_parent = right.root_parent;
     }
+
+-- what stays when the row of an inode is written
+pub same-taken : (old new : Kernel) (dir : ℕ) (row : Inode) → new ≡ record old { inodes = set old.inodes dir (Used row) } → new.machine.nodes_taken ≡ old.machine.nodes_taken
+same-taken old new dir row e = ap (λ (k : Kernel). k.machine.nodes_taken) e
+
+pub same-nodes : (old new : Kernel) (dir : ℕ) (row : Inode) → new ≡ record old { inodes = set old.inodes dir (Used row) } → new.nodes ≡ old.nodes
+same-nodes old new dir row e = ap (λ (k : Kernel). k.nodes) e
+
+pub same-promised : (old new : Kernel) (dir : ℕ) (row : Inode) → new ≡ record old { inodes = set old.inodes dir (Used row) } → new.machine.promised ≡ old.machine.promised
+same-promised old new dir row e = ap (λ (k : Kernel). k.machine.promised) e
+
+pub pages-then : (old new : Kernel) (dir root page : ℕ) (row : Inode) → new ≡ record old { inodes = set old.inodes dir (Used row) }
+    → (((found : Mapping) → IsOwn (forest_of old) root page found → ⊥) → old.machine.pages_taken < old.size)
+    → ((found : Mapping) → IsOwn (forest_of new) root page found → ⊥) → new.machine.pages_taken < new.size
+pages-then old new dir root page row e less = subst (λ (k : Kernel). ((found : Mapping) → IsOwn (forest_of k) root page found → ⊥) → k.machine.pages_taken < k.size) (sym e) less
 
 root-by : (old : Kernel) (row : Inode) (kind : InodeKind) → kind ≡ Dir
     → (row.root ≢ 0 → IsSpace (forest_of old) [] row.root × ((forest_of old).owner (NodeObject row.root) ≡ Some OfFile)
@@ -143,3 +160,14 @@ module _ (old : Kernel) (dir size : ℕ) (row : Inode) (standing : Standing old)
         view = changes.view ∙ twice places (view (machine_of mid)) files-mid;
         standing = changes.standing;
       }
+
+  -- .. told of the tables with the longer row
+  pub row-then : (new : Kernel) → new ≡ mid → IsDirectoryRow new dir longer
+  row-then new e = subst (λ (k : Kernel). IsDirectoryRow k dir longer) (sym e) row-mid
+
+  pub change-then : (new last : Kernel) (number : ℕ) (place : Option Entry) → new ≡ mid → (IsDirectoryRow new dir longer → ChangesPlaces new last dir (set (places_seen new dir) number place))
+      → ChangesPlaces old last dir (set (places_for old row size) number place)
+  change-then new last number place e changed =
+      then-changed last (set (places_for old row size) number place)
+      (subst (λ (places : List (Option Entry)). ChangesPlaces mid last dir (set places number place)) places-mid
+      (subst (λ (k : Kernel). IsDirectoryRow k dir longer → ChangesPlaces k last dir (set (places_seen k dir) number place)) e changed row-mid))

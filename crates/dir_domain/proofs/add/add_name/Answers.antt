@@ -1,28 +1,35 @@
-use Rattle.std.proofs.Common.{◌/◌, refl, ap, sym, ◌∙◌, arith}
+use Rattle.std.proofs.Common.{◌≡◌, ℕ, ◌/◌, List, Some, true, refl, ap, ◌∙◌, arith}
 use Rattle.std.specs.Option.{is_some}
-use Rattle.kernel_tables.specs.Kernel.{kernel_of}
+use Rattle.kernel_tables.specs.declared.inode.Inode.{Inode}
+use Rattle.kernel_tables.specs.Kernel.{Kernel, kernel_of}
 use Rattle.unix_model.specs.Files.{inode_named}
+use Rattle.unix_model.specs.Tables.{least_below}
 use Rattle.kernel_machine.specs.Machine.{machine_of}
 use Rattle.kernel_machine.specs.View.{view}
 use Rattle.file_trees.proofs.Accounting.{nodes_left}
-use Rattle.dir_domain.specs.Places.{is_hole}
-use Rattle.dir_domain.specs.Rows.{bytes_stored}
+use Rattle.dir_domain.specs.Places.{has_name, is_hole}
+use Rattle.dir_domain.specs.Rows.{IsDirectoryRow, bytes_stored, places_seen}
 use Rattle.dir_domain.proofs.Adding.{name-there}
 use Rattle.dir_domain.proofs.AddsNames.{name-filled, name-appended}
 use Rattle.dir_domain.proofs.FoundPlaces.{first-named}
 use Rattle.dir_domain.proofs.Keeping.{dir_page_left, directory-now, directory-added}
-use Rattle.dir_domain.proofs.Searches.{least-inside}
+use Rattle.dir_domain.proofs.Searches.{found-inside}
 use Rattle.dir_domain.proofs.Seen.{places-are}
 use Rattle.dir_domain.proofs.add.add_name.Goals as goal
+
+-- a directory has a name once a place of it has the name
+has-place : (kernel : Kernel) (dir : ℕ) (row : Inode) (name : List ℕ) (number : ℕ) → IsDirectoryRow kernel dir row
+    → Some number ≡ least_below (has_name name (bytes_stored kernel row)) (row.length / 32) → is_some (inode_named (places_seen kernel dir) name) ≡ true
+has-place kernel dir row name number is e =
+    let first = first-named (bytes_stored kernel row) name (row.length / 32) number e in
+    ap (λ places. is_some (inode_named places name)) (places-are kernel dir row is) ∙ ap is_some first.found ∙ first.named
 
 pub returns-in-Some-clause-added : goal.returns-in-Some-clause-added
 unfolding view
 returns-in-Some-clause-added g c =
     let old = kernel_of (g.T.Store.memory c.args.store.now) in
-    let row = c.directory_row-row.result in
-    let first = first-named (bytes_stored old row) c.args.name.now (row.length / 32) c.in-Some.field-0 c.in-Some.ensures in (
-      name-there (view (machine_of old)) c.args.dir c.args.name.now c.args.inode
-          (ap (λ places. is_some (inode_named places c.args.name.now)) (places-are old c.args.dir row c.directory_row-row.ensures) ∙ ap is_some first.found ∙ first.named),
+    let row = c.directory_row-row.result in (
+      name-there (view (machine_of old)) c.args.dir c.args.name.now c.args.inode (has-place old c.args.dir row c.args.name.now c.in-Some.field-0 c.directory_row-row.ensures c.in-Some.ensures),
       refl,
     )
 
@@ -31,7 +38,7 @@ put_place-requires g c =
     let old = kernel_of (g.T.Store.memory c.args.store.now) in
     let row = c.directory_row-row.result in
     let is = c.directory_row-row.ensures in
-    let below = least-inside (is_hole (bytes_stored old row)) (row.length / 32) c.in-Some-first_hole.number (sym c.in-Some-first_hole.ensures) in
+    let below = found-inside (is_hole (bytes_stored old row)) (row.length / 32) c.in-Some-first_hole.number c.in-Some-first_hole.ensures in
     record {
       standing = c.requires.good.standing;
       row = is;

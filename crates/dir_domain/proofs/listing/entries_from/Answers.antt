@@ -1,5 +1,5 @@
-use Rattle.std.proofs.Common.{◌≡◌, ◌+◌, ◌/◌, ◌++◌, take, drop, ap, sym, subst, ◌∙◌, arith, inl, inr}
-use Rattle.kernel_tables.specs.Kernel.{kernel_of, memory_page}
+use Rattle.std.proofs.Common.{◌≡◌, ℕ, ◌+◌, ◌/◌, List, ◌++◌, length, take, drop, ap, sym, subst, ◌∙◌, arith, inl, inr}
+use Rattle.kernel_tables.specs.Kernel.{Kernel, kernel_of, memory_page}
 use Rattle.unix_model.specs.FileCalls.{listed_bytes, looked_at}
 use Rattle.dir_domain.specs.Listing.{IsPageAt}
 use Rattle.dir_domain.specs.Rows.{places_seen}
@@ -7,6 +7,14 @@ use Rattle.dir_domain.proofs.Names.{places-count, next-place}
 use Rattle.dir_domain.proofs.Entries.{lists-none, lists-all, drop-later}
 use Rattle.dir_domain.proofs.listing.entries_from.Goals as goal
 use Rattle.dir_domain.proofs.listing.entries_from.Goals.{then-loop-listing-test+else-listing-gt0, else-loop-listing-test}
+
+-- what was told of the places from here on is told of those behind the next one, once that one was looked at
+carried-on : {A B : Type 0} (after before : List A → B) (places : List A) (at next : ℕ) (all : B) {here : List A} → next ≡ at + 1 → drop at places ≡ here → after (drop (at + 1) places) ≡ before here
+    → before (drop at places) ≡ all → after (drop next places) ≡ all
+carried-on after before places at next all is here step told = ap (λ n. after (drop n places)) is ∙ step ∙ ap before (sym here) ∙ told
+
+page-there : (kernel : Kernel) (root number same_number page : ℕ) → number ≡ same_number → IsPageAt kernel root number page → IsPageAt kernel root same_number page
+page-there kernel root number same_number page same is = subst (λ (n : ℕ). IsPageAt kernel root n page) same is
 
 pub returns-then-count-place-clause-listed : goal.returns-then-count-place-clause-listed
 returns-then-count-place-clause-listed g c =
@@ -24,16 +32,14 @@ loop-listing-preserved g c =
     let next = listed.next in
     let here = next-place kernel c.args.dir c.directory_row-row.result c.requires.standing c.directory_row-row.ensures c.loop-listing.listing.next (memory_page kernel c.page_for-page.result.0) c.place_bytes-bytes.result
     below c.page_for-page.ensures.bytes c.place_bytes-bytes.ensures in
-    let behind_it = ap (λ n. drop n (places_seen kernel c.args.dir)) next in
+    let places = places_seen kernel c.args.dir in
+    let most = length c.args.into.now / 32 in
     record {
-      bytes = ap (λ rest. take c.list_place-listing.result.done c.list_place-listing.new.into ++ listed_bytes c.list_place-listing.result.left rest) behind_it
-          ∙ listed.bytes (drop (c.loop-listing.listing.next + 1) (places_seen kernel c.args.dir))
-          ∙ ap (λ rest. take c.loop-listing.listing.done c.loop-listing.into ++ listed_bytes c.loop-listing.listing.left rest) (sym here)
-          ∙ before.bytes;
-      looked = ap (λ rest. c.list_place-listing.result.next + looked_at c.list_place-listing.result.left rest) behind_it
-          ∙ listed.looked (drop (c.loop-listing.listing.next + 1) (places_seen kernel c.args.dir))
-          ∙ ap (λ rest. c.loop-listing.listing.next + looked_at c.loop-listing.listing.left rest) (sym here)
-          ∙ before.looked;
+      bytes = carried-on (λ rest. take c.list_place-listing.result.done c.list_place-listing.new.into ++ listed_bytes c.list_place-listing.result.left rest)
+          (λ rest. take c.loop-listing.listing.done c.loop-listing.into ++ listed_bytes c.loop-listing.listing.left rest)
+          places c.loop-listing.listing.next c.list_place-listing.result.next (listed_bytes most (drop c.args.place places)) next here (listed.bytes (drop (c.loop-listing.listing.next + 1) places)) before.bytes;
+      looked = carried-on (λ rest. c.list_place-listing.result.next + looked_at c.list_place-listing.result.left rest) (λ rest. c.loop-listing.listing.next + looked_at c.loop-listing.listing.left rest)
+          places c.loop-listing.listing.next c.list_place-listing.result.next (c.args.place + looked_at most (drop c.args.place places)) next here (listed.looked (drop (c.loop-listing.listing.next + 1) places)) before.looked;
       behind = listed.behind ∙ drop-later c.loop-listing.into c.args.into.now c.loop-listing.listing.done c.list_place-listing.result.done listed.done before.behind;
       long = listed.long ∙ before.long;
       room = listed.room ∙ before.room;
@@ -41,7 +47,7 @@ loop-listing-preserved g c =
       after = let a = before.after in omega arith;
       before = omega arith;
       page = λ inside. let same : c.loop-listing.listing.next / 128 ≡ c.list_place-listing.result.next / 128 = omega arith in
-          subst (λ n. IsPageAt kernel c.directory_row-row.result.root n c.page_for-page.result.0) same c.page_for-page.ensures;
+          page-there kernel c.directory_row-row.result.root (c.loop-listing.listing.next / 128) (c.list_place-listing.result.next / 128) c.page_for-page.result.0 same c.page_for-page.ensures;
     }
 
 pub returns-clause-listed : goal.returns-clause-listed

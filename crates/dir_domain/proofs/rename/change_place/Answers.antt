@@ -1,16 +1,22 @@
-use Rattle.std.proofs.Common.{◌/◌, arith, refl, ap, sym, subst, ◌∙◌}
+use Rattle.std.proofs.Common.{◌≡◌, ℕ, ◌/◌, List, Option, Some, None, arith, refl, ap, sym, subst, ◌∙◌}
 use Rattle.std.proofs.lemmas.List.{length-set}
-use Rattle.kernel_tables.specs.Kernel.{kernel_of}
+use Rattle.kernel_tables.specs.declared.inode.Inode.{Inode}
+use Rattle.kernel_tables.specs.Kernel.{Kernel, kernel_of}
 use Rattle.unix_model.specs.Files.{inode_named}
-use Rattle.kernel_machine.specs.Contents.{place_in}
+use Rattle.kernel_machine.specs.Contents.{place_in, places_in}
 use Rattle.dir_domain.specs.Changes.{ChangesPlaces}
-use Rattle.dir_domain.specs.Rows.{bytes_stored, places_seen}
+use Rattle.dir_domain.specs.Rows.{IsDirectoryRow, bytes_stored, places_seen}
 use Rattle.file_trees.proofs.Accounting.{nodes_left}
 use Rattle.dir_domain.proofs.FoundPlaces.{first-named}
 use Rattle.dir_domain.proofs.Keeping.{dir_page_left, directory-now, good-same}
 use Rattle.dir_domain.proofs.Names.{named-tree, place-changed, found-told, none-told}
 use Rattle.dir_domain.proofs.Seen.{places-are}
 use Rattle.dir_domain.proofs.rename.change_place.Goals as goal
+
+-- what the stored places tell of a name is what is seen of it
+told-seen : (kernel : Kernel) (dir : ℕ) (row : Inode) (name : List ℕ) (told : Option ℕ) → IsDirectoryRow kernel dir row
+    → told ≡ inode_named (places_in (bytes_stored kernel row) (row.length / 32)) name → told ≡ inode_named (places_seen kernel dir) name
+told-seen kernel dir row name told is e = e ∙ ap (λ places. inode_named places name) (sym (places-are kernel dir row is))
 
 pub write_place-requires : goal.write_place-requires
 write_place-requires g c =
@@ -30,7 +36,7 @@ pub returns-in-Some-clause-told : goal.returns-in-Some-clause-told
 returns-in-Some-clause-told g c =
     let old = kernel_of (g.T.Store.memory c.args.store.now) in
     found-told (places_seen old c.args.dir) c.args.name.now c.in-Some.named.inode
-    (c.in-Some.ensures.inode ∙ ap (λ places. inode_named places c.args.name.now) (sym (places-are old c.args.dir c.directory_row-row.result c.directory_row-row.ensures)))
+    (told-seen old c.args.dir c.directory_row-row.result c.args.name.now (Some c.in-Some.named.inode) c.directory_row-row.ensures c.in-Some.ensures.inode)
 
 pub returns-in-Some-clause-changed : goal.returns-in-Some-clause-changed
 returns-in-Some-clause-changed g c =
@@ -44,7 +50,7 @@ pub returns-in-None-clause-told : goal.returns-in-None-clause-told
 returns-in-None-clause-told g c =
     let old = kernel_of (g.T.Store.memory c.args.store.now) in
     none-told (places_seen old c.args.dir) c.args.name.now
-    (c.in-None.ensures.inode ∙ ap (λ places. inode_named places c.args.name.now) (sym (places-are old c.args.dir c.directory_row-row.result c.directory_row-row.ensures)))
+    (told-seen old c.args.dir c.directory_row-row.result c.args.name.now None c.directory_row-row.ensures c.in-None.ensures.inode)
 
 pub returns-in-Some-clause-good : goal.returns-in-Some-clause-good
 returns-in-Some-clause-good g c =

@@ -1,16 +1,21 @@
-use Rattle.std.proofs.Common.{◌≡◌, sym, subst, ◌*◌, ◌/◌, arith}
+use Rattle.std.proofs.Common.{◌≡◌, ℕ, sym, subst, ◌*◌, ◌/◌, arith}
 use Rattle.forest.specs.Calls.{IsOwn}
+use Rattle.forest.specs.Walks.{Mapping}
 use Rattle.kernel_forest.specs.Trees.{forest_of}
-use Rattle.kernel_tables.specs.Kernel.{kernel_of}
+use Rattle.kernel_tables.specs.Kernel.{Kernel, kernel_of}
 use Rattle.kernel_machine.proofs.OwnerLaws.{store_is_whole}
 use Rattle.dir_domain.proofs.Changing.{place-written}
 use Rattle.dir_domain.proofs.Seen.{tree-of-file}
 use Rattle.dir_domain.proofs.write.write_place.Goals as goal
 
+-- a page that is own is so by whatever number it goes
+own-there : (kernel : Kernel) (root page same_page : ℕ) (found : Mapping) → page ≡ same_page → IsOwn (forest_of kernel) root page found → IsOwn (forest_of kernel) root same_page found
+own-there kernel root page same_page found same is = subst (λ (n : ℕ). IsOwn (forest_of kernel) root n found) same is
+
 pub put_piece-requires-clause-page_room : goal.put_piece-requires-clause-page_room
 put_piece-requires-clause-page_room g c = λ own.
     let same : c.args.number / 128 ≡ 32 * c.args.number / 4096 = omega arith in
-    c.requires.pages (λ found is. own found (subst (λ page. IsOwn (forest_of (kernel_of (g.T.Store.memory c.args.store.now))) c.args.row.now.root page found) same is))
+    c.requires.pages (λ found is. own found (own-there (kernel_of (g.T.Store.memory c.args.store.now)) c.args.row.now.root (c.args.number / 128) (32 * c.args.number / 4096) found same is))
 
 pub put_piece-requires-clause-owner : goal.put_piece-requires-clause-owner
 put_piece-requires-clause-owner g c =
