@@ -17,7 +17,6 @@ use Rattle.forest.specs.Forest.{IsSpace}
 use Rattle.forest.specs.Objects.{NodeObject, OfFile}
 use Rattle.forest.specs.Walks.{Mapping, map_of}
 use Rattle.kernel_forest.proofs.GivingNodes.{unreleased}
-use Rattle.kernel_forest.specs.Moves.{KeepsRest}
 use Rattle.kernel_forest.specs.Owners.{page_owners, PagesAreOf}
 use Rattle.kernel_forest.specs.Releases.{KeepsUnreleased}
 use Rattle.kernel_forest.specs.Trees.{forest_of}
@@ -56,16 +55,6 @@ use Rattle.file_domain.specs.Good.{IsFileAt}
 use Rattle.file_domain.proofs.Keeping.{accounted_file, same_promise}
 use Rattle.file_domain.proofs.Rows.{with_row, row_there, seen_row}
 use Rattle.file_domain.proofs.Seen.{has-tree, seen_file}
-
--- what a space that was added leaves of the tables: how many nodes there are, how many pages are taken, and how large the store is
-pub rest-nodes : (old new : Kernel) → KeepsRest old new → new.nodes ≡ old.nodes
-rest-nodes old new rest = ap (λ (k : Kernel). k.nodes) rest
-
-pub rest-pages : (old new : Kernel) → KeepsRest old new → new.machine.pages_taken ≡ old.machine.pages_taken
-rest-pages old new rest = ap (λ (k : Kernel). k.machine.pages_taken) rest
-
-pub rest-size : (old new : Kernel) → KeepsRest old new → new.size ≡ old.size
-rest-size old new rest = ap (λ (k : Kernel). k.size) rest
 
 -- no tree has no pages
 no_pages : (kernel : Kernel) (root : ℕ) → root ≡ 0 → tree_memory kernel root ≡ nothing

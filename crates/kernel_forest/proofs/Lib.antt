@@ -4,6 +4,7 @@ pub mod ApartLaws
 pub mod Owners
 pub mod Outside
 pub mod Moves
+pub mod Rest
 pub mod InTrees
 pub mod Giving
 pub mod GivingNodes

@@ -1,8 +1,9 @@
 use Rattle.std.proofs.Common.{◌/◌, sym, arith}
 use Rattle.kernel_tables.specs.Kernel.{kernel_of}
 use Rattle.kernel_tables.proofs.Sizes.{length-inodes}
+use Rattle.kernel_forest.proofs.Rest.{rest-nodes, rest-pages_taken, rest-size}
 use Rattle.kernel_machine.proofs.OwnerLaws.{store_is_whole}
-use Rattle.file_domain.proofs.First.{is1, owner1, puts_first_by, rest-nodes, rest-pages, rest-size}
+use Rattle.file_domain.proofs.First.{is1, owner1, puts_first_by}
 use Rattle.file_trees.proofs.Accounting.{nodes_left}
 use Rattle.file_domain.proofs.Puts.{page_left}
 use Rattle.file_domain.proofs.Seen.{file_row, rooted_row}
@@ -41,7 +42,7 @@ put_piece-requires-clause-page_room g c shared =
     let within = c.requires.within in
     let some = c.requires.some in
     let less = page_left (kernel_of (g.T.Store.memory c.args.store.now)) c.args.file (c.args.at / 4096) c.args.inode c.requires.good c.requires.file (omega arith) (λ found real own. absurd (real c.requires.root)) in
-    let pages = rest-pages (kernel_of (g.T.Store.memory c.args.store.now)) (kernel_of (g.T.Store.memory c.new_space-tree.new.store)) c.new_space-tree.ensures.added.rest in
+    let pages = rest-pages_taken (kernel_of (g.T.Store.memory c.args.store.now)) (kernel_of (g.T.Store.memory c.new_space-tree.new.store)) c.new_space-tree.ensures.added.rest in
     let size = rest-size (kernel_of (g.T.Store.memory c.args.store.now)) (kernel_of (g.T.Store.memory c.new_space-tree.new.store)) c.new_space-tree.ensures.added.rest in
     omega arith
 

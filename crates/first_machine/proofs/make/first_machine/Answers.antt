@@ -4,7 +4,7 @@ use Rattle.kernel_tables.specs.Kernel.{Kernel, kernel_of}
 use Rattle.space_bank.specs.Shares.{nothing_outside}
 use Rattle.space_bank.proofs.HandLaws.{handed-out}
 use Rattle.forest.specs.Walks.{space_key}
-use Rattle.kernel_forest.specs.Moves.{KeepsRest}
+use Rattle.kernel_forest.proofs.Rest.{rest-nodes}
 use Rattle.unix_model.specs.Tables.{at}
 use Rattle.unix_model.proofs.TableLaws.{at-with_at}
 use Rattle.domain.specs.Domains.{Domain, domains}
@@ -14,10 +14,6 @@ use Rattle.first_machine.proofs.All.{first-now}
 use Rattle.first_machine.proofs.Made.{Makes, fixed-added, rows-added, trees-added}
 use Rattle.first_machine.proofs.Tables.{many-nodes, no-node, rows-good, slot-null, trees-good}
 use Rattle.first_machine.proofs.make.first_machine.Goals as goal
-
--- what is kept of the tables holds how many nodes there are
-same-nodes : (old new : Kernel) → KeepsRest old new → new.nodes ≡ old.nodes
-same-nodes old new rest = ap (λ (k : Kernel). k.nodes) rest
 
 pub new_space-space-requires-clause-trees : goal.new_space-space-requires-clause-trees
 new_space-space-requires-clause-trees g c =
@@ -46,7 +42,7 @@ pub new_domain-root-requires-clause-room : goal.new_domain-root-requires-clause-
 new_domain-root-requires-clause-room g c =
     let k0 = kernel_of (g.T.Store.memory c.promise_one.new.store) in
     let one = c.new_space-space.ensures.added.number in
-    let nodes = same-nodes k0 (kernel_of (g.T.Store.memory c.new_space-space.new.store)) c.new_space-space.ensures.added.rest in
+    let nodes = rest-nodes k0 (kernel_of (g.T.Store.memory c.new_space-space.new.store)) c.new_space-space.ensures.added.rest in
     omega (arith, one, nodes, many-nodes c.args.pages c.args.quantum k0 c.promise_one.ensures.begun, no-node c.args.pages c.args.quantum k0 c.promise_one.ensures.begun)
 
 pub new_domain-root-requires-clause-shares : goal.new_domain-root-requires-clause-shares

@@ -1,6 +1,7 @@
-use Rattle.std.proofs.Common.{◌≡◌, ℕ, Option, ap, sym, ◌∙◌, arith}
-use Rattle.kernel_tables.specs.Kernel.{Kernel, kernel_of}
+use Rattle.std.proofs.Common.{ℕ, Option, ap, sym, ◌∙◌, arith}
+use Rattle.kernel_tables.specs.Kernel.{kernel_of}
 use Rattle.forest.specs.Walks.{Mapping}
+use Rattle.kernel_forest.proofs.Rest.{rest-nodes}
 use Rattle.unix_exec.proofs.Maps.{maps_none, not_yet, room_for_page, maps_needed, maps_other}
 use Rattle.unix_exec.proofs.pages.map_loads.Goals as goal
 use Rattle.unix_exec.proofs.pages.map_loads.Goals.{then-is_needed, else-is_needed}
@@ -20,7 +21,7 @@ pub map_zero-requires-clause-room : goal.map_zero-requires-clause-room
 map_zero-requires-clause-room g c =
     let old = kernel_of (g.T.Store.memory c.args.store.now) in
     let now = kernel_of (g.T.Store.memory c.loop-page.store) in
-    let nodes : now.nodes ≡ old.nodes = ap (λ (k : Kernel). k.nodes) c.loop-page.invariant.maps.rest in
+    let nodes = rest-nodes old now c.loop-page.invariant.maps.rest in
     let room = room_for_page c.args.loads.now c.loop-page.page old.machine.nodes_taken now.machine.nodes_taken old.nodes c.loop-page-test.true (sym c.is_needed.ensures ∙ c.if-is_needed.true)
     c.loop-page.invariant.maps.most c.requires.room in
     omega arith

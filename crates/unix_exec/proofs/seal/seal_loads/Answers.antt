@@ -1,6 +1,7 @@
-use Rattle.std.proofs.Common.{ap, sym, subst, ◌∙◌, arith}
+use Rattle.std.proofs.Common.{sym, subst, ◌∙◌, arith}
 use Rattle.std.specs.Prelude.{IsSome}
-use Rattle.kernel_tables.specs.Kernel.{Kernel, kernel_of}
+use Rattle.kernel_tables.specs.Kernel.{kernel_of}
+use Rattle.kernel_forest.proofs.Rest.{rest-nodes}
 use Rattle.unix_exec.proofs.Sealed.{seals_none, seals_needed, seals_other, map_still, sealed_needed}
 use Rattle.unix_exec.proofs.seal.seal_loads.Goals as goal
 use Rattle.unix_exec.proofs.seal.seal_loads.Goals.{then-is_sealed, else-is_sealed}
@@ -20,7 +21,7 @@ protect-requires-clause-mapped g c =
 pub protect-requires-clause-room : goal.protect-requires-clause-room
 protect-requires-clause-room g c =
     let nodes = c.loop-page.invariant.seals.nodes in
-    let all = ap (λ (k : Kernel). k.nodes) c.loop-page.invariant.seals.rest in
+    let all = rest-nodes (kernel_of (g.T.Store.memory c.args.store.now)) (kernel_of (g.T.Store.memory c.loop-page.store)) c.loop-page.invariant.seals.rest in
     let room = c.requires.room in
     omega arith
 

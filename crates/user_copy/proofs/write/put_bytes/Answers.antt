@@ -3,6 +3,7 @@ use Rattle.std.proofs.lemmas.Bool.{eqb-true, eqb-false}
 use Rattle.kernel_tables.specs.Kernel.{Kernel, kernel_of}
 use Rattle.kernel_tables.proofs.Sizes.{length-memory_page}
 use Rattle.kernel_forest.specs.Trees.{forest_of}
+use Rattle.kernel_forest.proofs.Rest.{unreleased-size}
 use Rattle.forest.specs.Walks.{map_of}
 use Rattle.forest.specs.Calls.{IsOwn}
 use Rattle.user_copy.specs.SpaceMemory.{space_memory}
@@ -89,7 +90,7 @@ put_in_page-requires-else-from-in_first-2-clause-page_room g c again e shared =
     (each_may (space_memory kernel c.args.space.0.0) c.args.at (length c.args.from.now) (4096 - c.args.at % 4096) c.requires.can_write long) in
     let page : (c.args.at + (4096 - c.args.at % 4096)) / 4096 ≡ c.args.at / 4096 + 1 = omega arith in
     let second = subst (MayWrite kernel c.args.space.0.0) page next in
-    let size : mid.size ≡ kernel.size = ap (λ (k : Kernel). k.size) put.rest in
+    let size = unreleased-size kernel mid put.rest in
     subst (λ s. mid.machine.pages_taken < s) (sym size)
     (room_for_second (forest_of kernel) c.args.space.0.0 (c.args.at / 4096) kernel.machine.pages_taken kernel.size put.found second.found put.mapped second.mapped
     (λ taken counts. c.requires.page_room taken
