@@ -1,12 +1,12 @@
 -- Which blocks several calls change, one after the other.
-use Rattle.std.proofs.Common.{ℕ, List, [], ◌∷◌, ◌++◌, ◌+◌, ◌/◌, inl, inr, ⊎_elim, ◌∙◌, Option, Some, None, refl, sym, subst, ◌≡◌}
-use Rattle.kernel_tables.specs.Kernel.{Kernel}
+use Rattle.std.proofs.Common.{ℕ, List, [], ◌∷◌, ◌++◌, ◌+◌, ◌-◌, ◌/◌, inl, inr, ⊎_elim, ◌∙◌, Option, Some, None, refl, sym, subst, ◌≡◌}
+use Rattle.kernel_tables.specs.Kernel.{Kernel, first_page}
 use Rattle.unix_model.specs.Tables.{at}
 use Rattle.domain.specs.Domains.{domains}
 use Rattle.domain.specs.Buffers.{BufferBlocks}
 use Rattle.domain.specs.Ends.{node_gone, nodes_gone, ended_blocks, dropped_blocks}
 use Rattle.domain.proofs.Writing.{same_block}
-use Rattle.kernel_tables.specs.Blocks.{IsAmong, ChangesBlocks, key_block, machine_block, node_entry_block}
+use Rattle.kernel_tables.specs.Blocks.{IsAmong, ChangesBlocks, key_block, machine_block, node_entry_block, page_entry_block}
 
 pub among_left : (block : ℕ) (xs ys : List ℕ) → IsAmong block xs → IsAmong block (xs ++ ys)
 among_left block [] ys h = absurd h
@@ -32,6 +32,14 @@ pub no_buffer_blocks : (kernel : Kernel) (root : ℕ) (buffer : Option ℕ) (blo
 no_buffer_blocks kernel root None blocks = (0, record { same_number = refl; others = λ block apart. refl })
 no_buffer_blocks kernel root (Some page) blocks = record { same_number = refl; others = λ block apart. refl }
 
+-- the block of keys, and those of a page that is given back, told by what the tables had before
+pub keys_changed : (old new : List (List ℕ)) (pages more node : ℕ) → more ≡ pages → ChangesBlocks old new (key_block more node ∷ []) → ChangesBlocks old new (key_block pages node ∷ [])
+keys_changed old new pages more node same changes = subst (λ p. ChangesBlocks old new (key_block p node ∷ [])) same changes
+
+pub page_changed : (old new : List (List ℕ)) (size more page : ℕ) → more ≡ size → ChangesBlocks old new (page ∷ page_entry_block (page - first_page more) ∷ machine_block ∷ [])
+    → ChangesBlocks old new (page ∷ page_entry_block (page - first_page size) ∷ machine_block ∷ [])
+page_changed old new size more page same changes = subst (λ s. ChangesBlocks old new (page ∷ page_entry_block (page - first_page s) ∷ machine_block ∷ [])) same changes
+
 -- the blocks of a domain that is made
 pub born_changes : (b0 b1 b2 b3 b4 b5 b6 b7 : List (List ℕ)) (size size2 size4 pages pages1 pages3 pages5 pages6 r d t table : ℕ) → size2 ≡ size → size4 ≡ size
     → pages1 ≡ pages → pages3 ≡ pages → pages5 ≡ pages → pages6 ≡ pages
@@ -47,6 +55,18 @@ born_changes b0 b1 b2 b3 b4 b5 b6 b7 size size2 size4 pages pages1 pages3 pages5
     (blocks_then b4 b6 b7 (node_entry_block size t ∷ machine_block ∷ key_block pages t ∷ []) (key_block pages table ∷ [])
     (blocks_then b4 b5 b6 (node_entry_block size t ∷ machine_block ∷ []) (key_block pages t ∷ []) (subst (λ s. ChangesBlocks b4 b5 (node_entry_block s t ∷ machine_block ∷ [])) s4 c5) (subst (λ p. ChangesBlocks b5 b6 (key_block p t ∷ [])) p5 c6))
     (subst (λ p. ChangesBlocks b6 b7 (key_block p table ∷ [])) p6 c7)))
+
+-- .. whose root is filled by one call and six keys
+pub filled_changes : (b0 b1 b2 b3 b4 b5 b6 b7 : List (List ℕ)) (pages p1 p2 p3 p4 p5 p6 root : ℕ) → p1 ≡ pages → p2 ≡ p1 → p3 ≡ p2 → p4 ≡ p3 → p5 ≡ p4 → p6 ≡ p5
+    → ChangesBlocks b0 b1 (key_block pages root ∷ []) → ChangesBlocks b1 b2 (key_block p1 root ∷ []) → ChangesBlocks b2 b3 (key_block p2 root ∷ []) → ChangesBlocks b3 b4 (key_block p3 root ∷ [])
+    → ChangesBlocks b4 b5 (key_block p4 root ∷ []) → ChangesBlocks b5 b6 (key_block p5 root ∷ []) → ChangesBlocks b6 b7 (key_block p6 root ∷ []) → ChangesBlocks b0 b7 (key_block pages root ∷ [])
+filled_changes b0 b1 b2 b3 b4 b5 b6 b7 pages p1 p2 p3 p4 p5 p6 root e1 e2 e3 e4 e5 e6 c1 c2 c3 c4 c5 c6 c7 =
+    let t2 = e2 ∙ e1 in
+    let t3 = e3 ∙ t2 in
+    let t4 = e4 ∙ t3 in
+    let t5 = e5 ∙ t4 in
+    same_block pages p6 root (e6 ∙ t5)
+    (same_block pages p5 root t5 (same_block pages p4 root t4 (same_block pages p3 root t3 (same_block pages p2 root t2 (same_block pages p1 root e1 c1 c2) c3) c4) c5) c6) c7
 
 -- the blocks of a domain that becomes a zombie
 pub ended_changes : (kernel : Kernel) (root r d pages1 pages2 pages3 pages4 size3 size4 : ℕ) (b0 b1 b2 b3 b4 b5 : List (List ℕ))

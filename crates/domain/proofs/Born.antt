@@ -32,6 +32,15 @@ fresh_null old new node takes = fun_ext (λ place. ⊎_elim
     (λ (t : 16 ≤ place). rw (takes.entry, le-ltb place 16 t) refl)
     (cases_lt place 16))
 
+pub null_place : (row : ℕ → Key) → row ≡ null_row → (place : ℕ) → row place ≡ Null
+null_place row null place = ap (λ (r : ℕ → Key). r place) null
+
+pub fresh_place : (old new : Kernel) (node : ℕ) → TakesRow old new node → (place : ℕ) → domain_rows new node place ≡ Null
+fresh_place old new node takes place = null_place (domain_rows new node) (fresh_null old new node takes) place
+
+pub fresh_mine : (old new : Kernel) (node : ℕ) → TakesRow old new node → of_domain (entry_at new.node_entries node) ≡ true
+fresh_mine old new node takes = ap of_domain takes.entry
+
 node_named : (key : Key) (n : ℕ) → node_in key ≡ Some n → key_names_node n key ≡ true
 node_named (Node node) n e = let same : node.0 ≡ n = cc in eq-eqb node.0 n same
 node_named _ n e = cc

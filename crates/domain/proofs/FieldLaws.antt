@@ -5,6 +5,8 @@ use Rattle.std.proofs.lemmas.Bool.{lt-ltb}
 use Rattle.kn_base.specs.declared.key.Key.{Key}
 use Rattle.unix_model.specs.Tables.{at, with_at}
 use Rattle.unix_model.proofs.TableLaws.{with_at-twice}
+use Rattle.unix_model.specs.declared.calls.Request.{Request}
+use Rattle.domain.specs.declared.types.Answer.{Answer}
 use Rattle.domain.specs.declared.types.Heads.{Heads}
 use Rattle.domain.specs.Keys.{is_meter, node_in, segment_in, page_in, word_in, words_in, root_in}
 use Rattle.domain.specs.Domains.{Domain, full_domain, domain_at, with_heads, heads_in, lives_by, roots_by}
@@ -37,11 +39,11 @@ heads_fields row first second heads a b regs descriptors =
     let b2 = third_word second heads.break_start heads.break_end heads.word b in
     rw (a0, a1, a2, b0, b1, b2) refl
 
-pub heads_set : (rows : ℕ → ℕ → Key) (root : ℕ) (first second : Key) (heads : Heads) → RowsGood rows → is_meter (rows root 2) ≡ true
+pub heads_set : (rows now : ℕ → ℕ → Key) (root : ℕ) (first second : Key) (heads : Heads) → now ≡ written (written rows root 7 first) root 8 second → RowsGood rows → is_meter (rows root 2) ≡ true
     → words_in first ≡ heads.pid ∷ heads.parent ∷ word_in (rows root 7) 2 ∷ [] → words_in second ≡ heads.break_start ∷ heads.break_end ∷ heads.word ∷ []
-    → domain_at (written (written rows root 7 first) root 8 second) ≡ with_at (domain_at rows) root (with_heads (at (domain_at rows) root) heads)
-heads_set rows root first second heads good meter a b =
-    ap domain_at (written_two rows root 7 8 first second)
+    → domain_at now ≡ with_at (domain_at rows) root (with_heads (at (domain_at rows) root) heads)
+heads_set rows now root first second heads is good meter a b =
+    ap domain_at (is ∙ written_two rows root 7 8 first second)
     ∙ root_row_set rows root (with_at (with_at (rows root) 7 first) 8 second) (λ d. with_heads d heads) good meter
     (two_other (rows root) 7 8 2 first second (λ e. absurd (omega arith)) (λ e. absurd (omega arith)))
     (two_other (rows root) 7 8 3 first second (λ e. absurd (omega arith)) (λ e. absurd (omega arith)))
@@ -62,7 +64,7 @@ request_fields row first second call a0 a1 a2 a3 length a b regs descriptors =
     let s2 = third_word second a2 a3 length b in
     rw (f0, f1, f2, s0, s1, s2) refl
 
-pub request_set : (rows : ℕ → ℕ → Key) (root : ℕ) (first second : Key) (call a0 a1 a2 a3 length : ℕ) → RowsGood rows → is_meter (rows root 2) ≡ true
+request_set : (rows : ℕ → ℕ → Key) (root : ℕ) (first second : Key) (call a0 a1 a2 a3 length : ℕ) → RowsGood rows → is_meter (rows root 2) ≡ true
     → words_in first ≡ call ∷ a0 ∷ a1 ∷ [] → words_in second ≡ a2 ∷ a3 ∷ length ∷ []
     → domain_at (written (written rows root 9 first) root 10 second)
     ≡ with_at (domain_at rows) root (record (at (domain_at rows) root) { request = record { call = call; args = a0 ∷ a1 ∷ a2 ∷ a3 ∷ []; length = length } })
@@ -76,9 +78,9 @@ request_set rows root first second call a0 a1 a2 a3 length good meter a b =
     (request_fields (rows root) first second call a0 a1 a2 a3 length a b)
 
 -- lives, while two keys behind key 6 are written
-pub lives_two : (rows fixed : ℕ → ℕ → Key) (root a b : ℕ) (first second : Key) → 7 ≤ a → 7 ≤ b → lives_by (written (written rows root a first) root b second) fixed ≡ lives_by rows fixed
-lives_two rows fixed root a b first second low high =
-    ap (λ r. lives_by r fixed) (written_two rows root a b first second)
+pub lives_two : (rows now fixed fixed_now : ℕ → ℕ → Key) (root a b : ℕ) (first second : Key) → now ≡ written (written rows root a first) root b second → fixed_now ≡ fixed → 7 ≤ a → 7 ≤ b → lives_by now fixed_now ≡ lives_by rows fixed
+lives_two rows now fixed fixed_now root a b first second is same low high =
+    ap (lives_by now) same ∙ ap (λ r. lives_by r fixed) (is ∙ written_two rows root a b first second)
     ∙ lives_row_same rows fixed root (with_at (with_at (rows root) a first) b second)
     (ap is_meter (two_other (rows root) a b 2 first second (λ e. absurd (omega arith)) (λ e. absurd (omega arith))))
     (λ meter. two_other (rows root) a b 6 first second (λ e. absurd (omega arith)) (λ e. absurd (omega arith)))
@@ -133,6 +135,35 @@ pub root_answer : (rows : ℕ → ℕ → Key) (root : ℕ) → (at (domain_at r
 unfolding full_domain
 root_answer rows root live = ap (λ (d : Domain). d.answer) (root_domain rows root (live_meter rows root live))
 
+-- the words of a key that was read, ..
+pub words_read : (words : List ℕ) (key there : Key) → words ≡ words_in key → key ≡ there → words ≡ words_in there
+words_read words key there told read = told ∙ ap words_in read
+
+pub first_read : (words : List ℕ) (key : Key) → words ≡ words_in key → get_or words 0 0 ≡ word_in key 0
+first_read words key told = ap (λ (w : List ℕ). get_or w 0 0) told
+
+pub third_read : (words : List ℕ) (key : Key) → words ≡ words_in key → get_or words 2 0 ≡ word_in key 2
+third_read words key told = ap (λ (w : List ℕ). get_or w 2 0) told
+
+-- .. and what the words of keys tell of a domain
+module _ (rows : ℕ → ℕ → Key) (root : ℕ) (live : (at (domain_at rows) root).live ≡ true) where
+  pub heads_told : (first second : List ℕ) → first ≡ words_in (rows root 7) → second ≡ words_in (rows root 8)
+      → record { pid = get_or first 0 0; parent = get_or first 1 0; break_start = get_or second 0 0; break_end = get_or second 1 0; word = get_or second 2 0 } ≡ heads_in (at (domain_at rows) root)
+  heads_told first second a b =
+      ap (λ (w : List ℕ). let h : Heads = record { pid = get_or w 0 0; parent = get_or w 1 0; break_start = get_or second 0 0; break_end = get_or second 1 0; word = get_or second 2 0 } in h) a
+      ∙ ap (λ (w : List ℕ). let h : Heads = record { pid = word_in (rows root 7) 0; parent = word_in (rows root 7) 1; break_start = get_or w 0 0; break_end = get_or w 1 0; word = get_or w 2 0 } in h) b
+      ∙ sym (root_heads rows root live)
+
+  pub request_told : (first second : List ℕ) → first ≡ words_in (rows root 9) → second ≡ words_in (rows root 10)
+      → record { call = get_or first 0 0; args = get_or first 1 0 ∷ get_or first 2 0 ∷ get_or second 0 0 ∷ get_or second 1 0 ∷ []; length = get_or second 2 0 } ≡ (at (domain_at rows) root).request
+  request_told first second a b =
+      ap (λ (w : List ℕ). let r : Request = record { call = get_or w 0 0; args = get_or w 1 0 ∷ get_or w 2 0 ∷ get_or second 0 0 ∷ get_or second 1 0 ∷ []; length = get_or second 2 0 } in r) a
+      ∙ ap (λ (w : List ℕ). let r : Request = record { call = word_in (rows root 9) 0; args = word_in (rows root 9) 1 ∷ word_in (rows root 9) 2 ∷ get_or w 0 0 ∷ get_or w 1 0 ∷ []; length = get_or w 2 0 } in r) b
+      ∙ sym (root_request rows root live)
+
+  pub answer_told : (words : List ℕ) → words ≡ words_in (rows root 11) → record { value = get_or words 0 0; at = get_or words 1 0; length = get_or words 2 0 } ≡ (at (domain_at rows) root).answer
+  answer_told words a = ap (λ (w : List ℕ). let r : Answer = record { value = get_or w 0 0; at = get_or w 1 0; length = get_or w 2 0 } in r) a ∙ sym (root_answer rows root live)
+
 pub root_space : (rows : ℕ → ℕ → Key) (root : ℕ) → (at (domain_at rows) root).live ≡ true → (at (domain_at rows) root).space ≡ segment_in (rows root 0)
 unfolding full_domain
 root_space rows root live = ap (λ (d : Domain). d.space) (root_domain rows root (live_meter rows root live))
@@ -140,6 +171,10 @@ root_space rows root live = ap (λ (d : Domain). d.space) (root_domain rows root
 pub root_buffer : (rows : ℕ → ℕ → Key) (root : ℕ) → (at (domain_at rows) root).live ≡ true → (at (domain_at rows) root).buffer ≡ page_in (rows root 5)
 unfolding full_domain
 root_buffer rows root live = ap (λ (d : Domain). d.buffer) (root_domain rows root (live_meter rows root live))
+
+-- .. as its key tells that was read
+pub buffer_read : (rows : ℕ → ℕ → Key) (root : ℕ) (key : Key) (page : Option ℕ) → (at (domain_at rows) root).live ≡ true → key ≡ rows root 5 → page_in key ≡ page → (at (domain_at rows) root).buffer ≡ page
+buffer_read rows root key page live read is = root_buffer rows root live ∙ ap page_in (sym read) ∙ is
 
 pub root_whole : (rows : ℕ → ℕ → Key) (root : ℕ) → (at (domain_at rows) root).live ≡ true
     → (at (domain_at rows) root).whole ≡ (is_some (node_in (rows root 3)) && is_some (node_in (rows root 4)))
@@ -159,3 +194,14 @@ four_words (a ∷ b ∷ []) e = absurd (omega arith)
 four_words (a ∷ b ∷ c ∷ []) e = absurd (omega arith)
 four_words (a ∷ b ∷ c ∷ d ∷ []) e = refl
 four_words (a ∷ b ∷ c ∷ d ∷ f ∷ xs) e = absurd (omega arith)
+
+-- a request that is told word by word
+pub request_written : (rows now : ℕ → ℕ → Key) (root : ℕ) (first second : Key) (request : Request) (args : List ℕ) (n : ℕ) → now ≡ written (written rows root 9 first) root 10 second → RowsGood rows → is_meter (rows root 2) ≡ true
+    → words_in first ≡ request.call ∷ get_or args 0 0 ∷ get_or args 1 0 ∷ [] → words_in second ≡ get_or args 2 0 ∷ get_or args 3 0 ∷ n ∷ [] → length args ≡ 4 → args ≡ request.args → n ≡ request.length
+    → domain_at now ≡ with_at (domain_at rows) root (record (at (domain_at rows) root) { request = request })
+request_written rows now root first second request args n is good meter a b four all long =
+    ap domain_at is
+    ∙ request_set rows root first second request.call (get_or args 0 0) (get_or args 1 0) (get_or args 2 0) (get_or args 3 0) n good meter a b
+    ∙ ap (λ (r : Request). with_at (domain_at rows) root (let d : Domain = record (at (domain_at rows) root) { request = r } in d))
+    (ap (λ (m : ℕ). let r : Request = record { call = request.call; args = get_or args 0 0 ∷ get_or args 1 0 ∷ get_or args 2 0 ∷ get_or args 3 0 ∷ []; length = m } in r) long
+    ∙ ap (λ (l : List ℕ). let r : Request = record { call = request.call; args = l; length = request.length } in r) (four_words args four ∙ all))

@@ -7,6 +7,7 @@ pub mod WordRows
 pub mod Writing
 pub mod Handing
 pub mod BlockSets
+pub mod Kept
 pub mod Pages
 pub mod Filling
 pub mod FillingRoot

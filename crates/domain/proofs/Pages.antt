@@ -168,8 +168,8 @@ module _ (k0 k1 k2 : Kernel) (root : ℕ) (id : PageId) (good : BankGood k0) (ro
     }
 
 -- the page that a domain holds
-pub held_page : (kernel : Kernel) (root page : ℕ) → (at (domains kernel) root).live ≡ true → page_in (domain_rows kernel root 5) ≡ Some page → HoldsBuffer kernel (at (domains kernel) root).buffer → IsBuffer kernel page
-held_page kernel root page live is holds = subst (HoldsBuffer kernel) (root_buffer (domain_rows kernel) root live ∙ is) holds
+pub held_page : (kernel : Kernel) (root page : ℕ) → (at (domains kernel) root).buffer ≡ Some page → HoldsBuffer kernel (at (domains kernel) root).buffer → IsBuffer kernel page
+held_page kernel root page is holds = subst (HoldsBuffer kernel) is holds
 
 page_named : (key : Key) (page : ℕ) → page_in key ≡ Some page → key_names_page page key ≡ true
 page_named (Page p writable) page e = let same : p.0 ≡ page = cc in eq-eqb p.0 page same

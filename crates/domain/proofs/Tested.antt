@@ -1,19 +1,20 @@
 -- The test of the domain of a slot tells whether it is right.
-use Rattle.std.proofs.Common.{◌≡◌, ◌≢◌, ◌<◌, ◌≤◌, ◌+◌, ◌-◌, ◌*◌, ◌%◌, ◌==◌, ◌&&◌, ◌||◌, not, nat_lt, nat_le, ℕ, Bool, Option, Some, None, true, false, refl, ap, sym, subst, ◌∙◌, arith, ⊎_elim, if◌then◌else◌}
+use Rattle.std.proofs.Common.{◌≡◌, ◌≢◌, ◌<◌, ◌≤◌, ◌+◌, ◌-◌, ◌*◌, ◌/◌, ◌%◌, ◌↔◌, IsTrue, ◌==◌, ◌&&◌, ◌||◌, not, nat_lt, nat_le, ℕ, Bool, Option, Some, None, true, false, refl, ap, sym, subst, ◌∙◌, arith, ⊎_elim, if◌then◌else◌}
 use Rattle.std.specs.Option.{is_some}
 use Rattle.std.proofs.lemmas.Bool.{and_parts, and_from, cases_eq, cases_lt, eqb-true, eq-eqb, leb-true, le-leb, ltb-true, lt-ltb, le-ltb}
 use Rattle.kn_base.specs.declared.key.Key.{Key}
-use Rattle.kn_base.specs.declared.key.Key.TheVariants.{Null, Start, Meter}
+use Rattle.kn_base.specs.declared.key.Key.TheVariants.{Null, Start, Meter, Domain as DomainKey}
+use Rattle.kn_base.specs.declared.key.NodeId.{NodeId}
 use Rattle.kernel_tables.specs.Kernel.{Kernel}
 use Rattle.kernel_tables.specs.Rows.{key_table, rows}
 use Rattle.unix_model.specs.Tables.{at}
 use Rattle.domain.specs.declared.types.Phase.{Phase}
 use Rattle.domain.specs.declared.types.Phase.TheVariants.{Run, Asked, Sent, Done, Exiting, Zombie}
-use Rattle.domain.specs.Keys.{is_number, is_meter, meter_in, node_in, segment_in, page_in, word_in, count_in, key_of_space}
+use Rattle.domain.specs.Keys.{is_number, is_meter, meter_in, node_in, root_in, segment_in, page_in, word_in, count_in, key_of_space}
 use Rattle.domain.specs.Domains.{Domain, full_domain, domain_at, words_of, node_words, state_by, state_number, phase_by}
 use Rattle.domain.specs.Rules.{NumberFits, RegistersGood, DescriptorsGood}
 use Rattle.domain.specs.Phases.{state_for, key_for, FitsPhase, IsWhole, HasSpace, BufferFits}
-use Rattle.domain.specs.Checks.{node_rows, HasWords, IsDomainOf}
+use Rattle.domain.specs.Checks.{node_rows, HasWords, IsDomainOf, KeysInRange, IsRightSlot, SlotGood}
 use Rattle.domain.specs.Tests.{all_pass, is_zombie, is_sent, is_done, has_ended, is_null, are_zero, is_meter_of, is_keeper, in_bounds, fits_space, fits_life, fits_ids, fits_break, fits_call, fits_rest, fits_answer, fits_marks, fits_buffer, fits_room, has_words, has_registers, has_descriptors, fits_node, has_places, has_numbers, has_objects, has_nodes, is_domain_of}
 use Rattle.domain.proofs.DomainLaws.{root_domain}
 use Rattle.domain.proofs.Fits.{state_low, life_fits, break_fits, call_fits, request_fits, answer_fits, marks_fit, ids_low}
@@ -29,6 +30,14 @@ rows_end kernel node place above = rw (le-ltb place 16 above) refl
 pub row_is : (kernel : Kernel) (node place : ℕ) → place < 16 → node_rows kernel node place ≡ key_table kernel.keys (16 * node + place)
 unfolding rows
 row_is kernel node place low = rw (lt-ltb place 16 low) refl
+
+-- so a key that was read there names a node in range, ..
+pub node_read : (kernel : Kernel) (node place : ℕ) (key : Key) → place < 16 → key ≡ node_rows kernel node place → KeysInRange kernel → (other : ℕ) → node_in key ≡ Some other → other < kernel.nodes
+node_read kernel node place key low read within other names = (within (16 * node + place)).node other (ap node_in (sym (read ∙ row_is kernel node place low)) ∙ names)
+
+-- .. or a root
+pub root_read : (kernel : Kernel) (node place : ℕ) (key : Key) (root : NodeId) → place < 16 → key ≡ node_rows kernel node place → key ≡ DomainKey root → KeysInRange kernel → root.0 < kernel.nodes
+root_read kernel node place key root low read is within = (within (16 * node + place)).root root.0 (ap root_in (sym (read ∙ row_is kernel node place low) ∙ is))
 
 -- ---- nodes of words
 
@@ -389,3 +398,13 @@ module _ (rows : ℕ → ℕ → Key) (room : Key) (slot root : ℕ) (end : (nod
         (and_from (has_objects phase row) (has_nodes phase rows root && fits_room phase root (count_in (row 6)) room) objects_then
         (and_from (has_nodes phase rows root) (fits_room phase root (count_in (row 6)) room) nodes_then
         (fits_room_then phase root (count_in (row 6)) room (is.key ∙ ap (key_for root (count_in (row 6))) phase_then)))))
+
+-- a slot whose key names a root is right where the test of that root tells so
+pub slot_told : (kernel : Kernel) (slot : ℕ) (key room : Key) (root : NodeId) (result : Bool) → key ≡ node_rows kernel (11 + slot / 16) (slot % 16) → room ≡ node_rows kernel (7 + slot / 16) (slot % 16)
+    → key ≡ DomainKey root → result ≡ is_domain_of (node_rows kernel) room slot root.0 → IsTrue result ↔ SlotGood kernel slot
+slot_told kernel slot key room root result key_read room_read is told =
+    let rows = node_rows kernel in
+    subst (λ (k : Key). IsTrue result ↔ IsRightSlot rows (rows (7 + slot / 16) (slot % 16)) slot k) (sym (sym key_read ∙ is)) (
+      λ e. subst (λ (r : Key). IsDomainOf rows r slot root.0) room_read (domain_told rows room slot root.0 (rows_end kernel) (sym told ∙ e)),
+      λ right. told ∙ domain_then rows room slot root.0 (rows_end kernel) (subst (λ (r : Key). IsDomainOf rows r slot root.0) (sym room_read) right),
+    )

@@ -319,6 +319,10 @@ pub word_few : (description : Option ℕ) (word : ℕ) → MatchOption descripti
 word_few None word e low = omega arith
 word_few (Some n) word e low = let few = low n refl in omega arith
 
+-- a key in which one of the words that were read was set
+pub word_set : (key : Key) (read there : List ℕ) (n word : ℕ) → words_in key ≡ set read n word → read ≡ there → words_in key ≡ set there n word
+word_set key read there n word is told = is ∙ ap (λ (words : List ℕ). set words n word) told
+
 pub descriptor_set : (rows : ℕ → ℕ → Key) (root node number word : ℕ) (key : Key) (description : Option ℕ) → RowsGood rows → (at (domain_at rows) root).live ≡ true → node_in (rows root 4) ≡ Some node
     → number < 32 → is_number key ≡ true → words_in key ≡ set (words_in (rows node (number / 3))) (number % 3) word → description_by word ≡ description
     → domain_at (written rows node (number / 3) key)
@@ -353,3 +357,25 @@ three_words row words place r low below e =
     ∙ ap (λ p. word_in (row p) r) (let d : place ≡ (3 * place + r) / 3 = omega arith in d)
     ∙ ap (word_in (row ((3 * place + r) / 3))) (let m : r ≡ (3 * place + r) % 3 = omega arith in m)
     ∙ sym (word_of row (3 * place + r) (omega arith))
+
+-- three registers more were read of a node, ..
+module _ (row : ℕ → Key) (x new read : List ℕ) (place : ℕ) (now : new ≡ set (set (set x (3 * place) (get_or read 0 0)) (3 * place + 1) (get_or read 1 0)) (3 * place + 2) (get_or read 2 0)) where
+  pub three_long : length new ≡ length x
+  three_long =
+      ap length now ∙ length-set (set (set x (3 * place) (get_or read 0 0)) (3 * place + 1) (get_or read 1 0)) (3 * place + 2) (get_or read 2 0)
+      ∙ length-set (set x (3 * place) (get_or read 0 0)) (3 * place + 1) (get_or read 1 0) ∙ length-set x (3 * place) (get_or read 0 0)
+
+  pub three_read : place < 10 → length x ≡ 32 → read ≡ words_in (row place) → ((k : ℕ) → k < 3 * place → get_or x k 0 ≡ node_words row k) → (k : ℕ) → k < 3 * (place + 1) → get_or new k 0 ≡ node_words row k
+  three_read low size told before k below =
+      ap (λ (l : List ℕ). get_or l k 0) now
+      ∙ set_three x (node_words row) place (get_or read 0 0) (get_or read 1 0) (get_or read 2 0) (omega arith) before
+      (three_words row read place 0 (omega arith) (omega arith) told ∙ ap (node_words row) (let e : 3 * place + 0 ≡ 3 * place = omega arith in e))
+      (three_words row read place 1 (omega arith) (omega arith) told) (three_words row read place 2 (omega arith) (omega arith) told) k below
+
+-- .. and the last two, and pc
+pub regs_told : (row : ℕ → Key) (x read : List ℕ) → length x ≡ 32 → read ≡ words_in (row 10) → ((k : ℕ) → k < 30 → get_or x k 0 ≡ node_words row k)
+    → record { x = set (set x 30 (get_or read 0 0)) 31 (get_or read 1 0); pc = get_or read 2 0 } ≡ regs_by (node_words row)
+regs_told row x read size told before =
+    ap (λ (p : ℕ). let r : Regs = record { x = set (set x 30 (get_or read 0 0)) 31 (get_or read 1 0); pc = p } in r) (three_words row read 10 2 (omega arith) (omega arith) told)
+    ∙ ap (λ (l : List ℕ). let r : Regs = record { x = l; pc = node_words row 32 } in r)
+    (two_last x (node_words row) (get_or read 0 0) (get_or read 1 0) size before (three_words row read 10 0 (omega arith) (omega arith) told) (three_words row read 10 1 (omega arith) (omega arith) told))

@@ -1,7 +1,8 @@
-use Rattle.std.proofs.Common.{ap, refl}
+use Rattle.std.proofs.Common.{refl}
 use Rattle.std.proofs.lemmas.Bool.{eq-eqb}
 use Rattle.kn_base.specs.declared.key.Key.TheVariants.{Domain as DomainKey}
-use Rattle.kernel_tables.specs.Kernel.{Kernel, kernel_of}
+use Rattle.kernel_tables.specs.Kernel.{kernel_of}
+use Rattle.kernel_forest.proofs.Rest.{put-pages, put-size}
 use Rattle.domain.proofs.BlockSets.{dropped_changes}
 use Rattle.domain.proofs.Dropping.{once1, quiet1, in_hand1, dropped_rows, drops_domain}
 use Rattle.domain.proofs.ends.drop_root.Goals as goal
@@ -36,4 +37,4 @@ returns-clause-blocks g c =
     let k0 = kernel_of (g.T.Store.memory c.args.store.now) in
     let k1 = kernel_of (g.T.Store.memory c.put_slot.new.store) in
     dropped_changes k0 c.args.slot c.args.root.0 k1.pages k1.size (g.T.Store.blocks c.args.store.now) (g.T.Store.blocks c.put_slot.new.store) (g.T.Store.blocks c.give_row.new.store)
-    (ap (λ (k : Kernel). k.pages) c.put_slot.ensures.put.state) (ap (λ (k : Kernel). k.size) c.put_slot.ensures.put.state) c.put_slot.ensures.blocks c.give_row.ensures.blocks
+    (put-pages k0 k1 c.put_slot.ensures.put) (put-size k0 k1 c.put_slot.ensures.put) c.put_slot.ensures.blocks c.give_row.ensures.blocks

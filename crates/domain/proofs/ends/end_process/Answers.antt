@@ -1,9 +1,11 @@
-use Rattle.std.proofs.Common.{ap, rules, ◌∙◌, ◌∷◌}
+use Rattle.std.proofs.Common.{rules, ◌∙◌, ◌∷◌}
 use Rattle.kn_base.specs.declared.key.Key.TheVariants.{Node}
-use Rattle.kernel_tables.specs.Kernel.{Kernel, kernel_of}
+use Rattle.kernel_tables.specs.Kernel.{kernel_of}
+use Rattle.kernel_forest.proofs.Rest.{put-pages, put-size}
 use Rattle.domain.proofs.Ending.{mine1, once_r, quiet_r, in_hand, once_d, quiet_d, in_hand_d, ended_rows, ends_domain, names_itself, root_regs_node, root_descriptors_node}
 use Rattle.kernel_tables.specs.Rows.{domain_rows}
 use Rattle.domain.proofs.BlockSets.{ended_changes}
+use Rattle.domain.proofs.Kept.{given-pages, given-size, keys-pages, keys-size}
 use Rattle.domain.proofs.ends.end_process.Goals as goal
 
 pub put_row-requires-clause-mine : goal.put_row-requires-clause-mine
@@ -71,12 +73,12 @@ returns-clause-blocks g c =
     let k2 = kernel_of (g.T.Store.memory c.put_row.new.store) in
     let k3 = kernel_of (g.T.Store.memory c.put_row-2.new.store) in
     let k4 = kernel_of (g.T.Store.memory c.give_row.new.store) in
-    let p1 = ap (λ (k : Kernel). k.pages) c.set_phase.ensures.others.rest in
-    let p2 = ap (λ (k : Kernel). k.pages) c.put_row.ensures.put.state ∙ p1 in
-    let p3 = ap (λ (k : Kernel). k.pages) c.put_row-2.ensures.put.state ∙ p2 in
-    let p4 = ap (λ (k : Kernel). k.pages) c.give_row.ensures.given.rest ∙ p3 in
-    let s3 = ap (λ (k : Kernel). k.size) c.put_row-2.ensures.put.state ∙ ap (λ (k : Kernel). k.size) c.put_row.ensures.put.state ∙ ap (λ (k : Kernel). k.size) c.set_phase.ensures.others.rest in
-    let s4 = ap (λ (k : Kernel). k.size) c.give_row.ensures.given.rest ∙ s3 in
+    let p1 = keys-pages k0 k1 c.set_phase.ensures.others.rest in
+    let p2 = put-pages k1 k2 c.put_row.ensures.put ∙ p1 in
+    let p3 = put-pages k2 k3 c.put_row-2.ensures.put ∙ p2 in
+    let p4 = given-pages k3 k4 c.give_row.ensures.given.rest ∙ p3 in
+    let s3 = put-size k2 k3 c.put_row-2.ensures.put ∙ put-size k1 k2 c.put_row.ensures.put ∙ keys-size k0 k1 c.set_phase.ensures.others.rest in
+    let s4 = given-size k3 k4 c.give_row.ensures.given.rest ∙ s3 in
     ended_changes k0 c.args.root.0 c.node_of_words-regs.result.0 c.node_of_words-descriptors.result.0 k1.pages k2.pages k3.pages k4.pages k3.size k4.size
     (g.T.Store.blocks c.args.store.now) (g.T.Store.blocks c.set_phase.new.store) (g.T.Store.blocks c.put_row.new.store) (g.T.Store.blocks c.put_row-2.new.store) (g.T.Store.blocks c.give_row.new.store) (g.T.Store.blocks c.give_row-2.new.store)
     p1 p2 p3 p4 s3 s4

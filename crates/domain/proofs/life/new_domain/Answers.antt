@@ -1,9 +1,9 @@
-use Rattle.std.proofs.Common.{ℕ, ap, arith, rules, ◌∙◌, ◌+◌, ◌/◌}
-use Rattle.kn_base.specs.declared.key.Key.{Key}
-use Rattle.kernel_tables.specs.Kernel.{Kernel, kernel_of}
-use Rattle.kernel_tables.specs.Rows.{of_domain}
-use Rattle.domain.proofs.Born.{fresh_null}
+use Rattle.std.proofs.Common.{arith, rules, ◌∙◌, ◌+◌, ◌/◌}
+use Rattle.kernel_tables.specs.Kernel.{kernel_of}
+use Rattle.kernel_forest.proofs.Rest.{rest-nodes, rest-pages, rest-size}
+use Rattle.domain.proofs.Born.{fresh_mine, fresh_null, fresh_place}
 use Rattle.domain.proofs.BlockSets.{born_changes}
+use Rattle.domain.proofs.Kept.{keys-nodes, keys-pages, keys-size, keys-taken}
 use Rattle.domain.proofs.Making.{makes_domain, made_good}
 use Rattle.domain.proofs.life.new_domain.Goals as goal
 
@@ -26,40 +26,50 @@ returns-clause-rows g c =
 
 pub take_row-descriptors-requires-clause-room : goal.take_row-descriptors-requires-clause-room
 take_row-descriptors-requires-clause-room g c =
+    let old = kernel_of (g.T.Store.memory c.args.store.now) in
+    let k1 = kernel_of (g.T.Store.memory c.take_row-regs.new.store) in
+    let k2 = kernel_of (g.T.Store.memory c.zero_keys.new.store) in
     let a = c.take_row-regs.ensures.taken.number in
-    let b = ap (λ (k : Kernel). k.machine.nodes_taken) c.zero_keys.ensures.filled.rest in
-    let d = ap (λ (k : Kernel). k.nodes) c.take_row-regs.ensures.taken.rest in
-    let e = ap (λ (k : Kernel). k.nodes) c.zero_keys.ensures.filled.rest in
+    let b = keys-taken k1 k2 c.zero_keys.ensures.filled.rest in
+    let d = rest-nodes old k1 c.take_row-regs.ensures.taken.rest in
+    let e = keys-nodes k1 k2 c.zero_keys.ensures.filled.rest in
     let room = c.requires.room in
     omega arith
 
 pub take_row-root-requires-clause-room : goal.take_row-root-requires-clause-room
 take_row-root-requires-clause-room g c =
+    let old = kernel_of (g.T.Store.memory c.args.store.now) in
+    let k1 = kernel_of (g.T.Store.memory c.take_row-regs.new.store) in
+    let k2 = kernel_of (g.T.Store.memory c.zero_keys.new.store) in
     let a = c.take_row-regs.ensures.taken.number in
-    let b = ap (λ (k : Kernel). k.machine.nodes_taken) c.zero_keys.ensures.filled.rest in
-    let d = ap (λ (k : Kernel). k.nodes) c.take_row-regs.ensures.taken.rest in
-    let e = ap (λ (k : Kernel). k.nodes) c.zero_keys.ensures.filled.rest in
+    let b = keys-taken k1 k2 c.zero_keys.ensures.filled.rest in
+    let d = rest-nodes old k1 c.take_row-regs.ensures.taken.rest in
+    let e = keys-nodes k1 k2 c.zero_keys.ensures.filled.rest in
+    let k3 = kernel_of (g.T.Store.memory c.take_row-descriptors.new.store) in
+    let k4 = kernel_of (g.T.Store.memory c.zero_keys-2.new.store) in
     let a2 = c.take_row-descriptors.ensures.taken.number in
-    let b2 = ap (λ (k : Kernel). k.machine.nodes_taken) c.zero_keys-2.ensures.filled.rest in
-    let d2 = ap (λ (k : Kernel). k.nodes) c.take_row-descriptors.ensures.taken.rest in
-    let e2 = ap (λ (k : Kernel). k.nodes) c.zero_keys-2.ensures.filled.rest in
+    let b2 = keys-taken k3 k4 c.zero_keys-2.ensures.filled.rest in
+    let d2 = rest-nodes k2 k3 c.take_row-descriptors.ensures.taken.rest in
+    let e2 = keys-nodes k3 k4 c.zero_keys-2.ensures.filled.rest in
     let room = c.requires.room in
     omega arith
 
 pub zero_keys-requires-clause-mine : goal.zero_keys-requires-clause-mine
-zero_keys-requires-clause-mine g c = ap of_domain c.take_row-regs.ensures.taken.entry
+zero_keys-requires-clause-mine g c = fresh_mine (kernel_of (g.T.Store.memory c.args.store.now)) (kernel_of (g.T.Store.memory c.take_row-regs.new.store)) c.take_row-regs.result.0 c.take_row-regs.ensures.taken
 
 pub zero_keys-requires-clause-nulls : goal.zero_keys-requires-clause-nulls
-zero_keys-requires-clause-nulls g c = λ place low. ap (λ (r : ℕ → Key). r place) (fresh_null (kernel_of (g.T.Store.memory c.args.store.now)) (kernel_of (g.T.Store.memory c.take_row-regs.new.store)) c.take_row-regs.result.0 c.take_row-regs.ensures.taken)
+zero_keys-requires-clause-nulls g c =
+    λ place low. fresh_place (kernel_of (g.T.Store.memory c.args.store.now)) (kernel_of (g.T.Store.memory c.take_row-regs.new.store)) c.take_row-regs.result.0 c.take_row-regs.ensures.taken place
 
 pub zero_keys-requires-2-clause-mine : goal.zero_keys-requires-2-clause-mine
-zero_keys-requires-2-clause-mine g c = ap of_domain c.take_row-descriptors.ensures.taken.entry
+zero_keys-requires-2-clause-mine g c = fresh_mine (kernel_of (g.T.Store.memory c.zero_keys.new.store)) (kernel_of (g.T.Store.memory c.take_row-descriptors.new.store)) c.take_row-descriptors.result.0 c.take_row-descriptors.ensures.taken
 
 pub zero_keys-requires-2-clause-nulls : goal.zero_keys-requires-2-clause-nulls
-zero_keys-requires-2-clause-nulls g c = λ place low. ap (λ (r : ℕ → Key). r place) (fresh_null (kernel_of (g.T.Store.memory c.zero_keys.new.store)) (kernel_of (g.T.Store.memory c.take_row-descriptors.new.store)) c.take_row-descriptors.result.0 c.take_row-descriptors.ensures.taken)
+zero_keys-requires-2-clause-nulls g c =
+    λ place low. fresh_place (kernel_of (g.T.Store.memory c.zero_keys.new.store)) (kernel_of (g.T.Store.memory c.take_row-descriptors.new.store)) c.take_row-descriptors.result.0 c.take_row-descriptors.ensures.taken place
 
 pub fill_root-requires-clause-mine : goal.fill_root-requires-clause-mine
-fill_root-requires-clause-mine g c = ap of_domain c.take_row-root.ensures.taken.entry
+fill_root-requires-clause-mine g c = fresh_mine (kernel_of (g.T.Store.memory c.zero_keys-2.new.store)) (kernel_of (g.T.Store.memory c.take_row-root.new.store)) c.take_row-root.result.0 c.take_row-root.ensures.taken
 
 pub fill_root-requires-clause-nulls : goal.fill_root-requires-clause-nulls
 fill_root-requires-clause-nulls g c = fresh_null (kernel_of (g.T.Store.memory c.zero_keys-2.new.store)) (kernel_of (g.T.Store.memory c.take_row-root.new.store)) c.take_row-root.result.0 c.take_row-root.ensures.taken
@@ -73,14 +83,14 @@ returns-clause-blocks g c =
     let k4 = (kernel_of (g.T.Store.memory c.zero_keys-2.new.store)) in
     let k5 = (kernel_of (g.T.Store.memory c.take_row-root.new.store)) in
     let k6 = (kernel_of (g.T.Store.memory c.fill_root.new.store)) in
-    let p1 = ap (λ (k : Kernel). k.pages) c.take_row-regs.ensures.taken.rest in
-    let p2 = ap (λ (k : Kernel). k.pages) c.zero_keys.ensures.filled.rest ∙ p1 in
-    let p3 = ap (λ (k : Kernel). k.pages) c.take_row-descriptors.ensures.taken.rest ∙ p2 in
-    let p4 = ap (λ (k : Kernel). k.pages) c.zero_keys-2.ensures.filled.rest ∙ p3 in
-    let p5 = ap (λ (k : Kernel). k.pages) c.take_row-root.ensures.taken.rest ∙ p4 in
-    let p6 = ap (λ (k : Kernel). k.pages) c.fill_root.ensures.filled.fills.rest ∙ p5 in
-    let s2 = ap (λ (k : Kernel). k.size) c.zero_keys.ensures.filled.rest ∙ ap (λ (k : Kernel). k.size) c.take_row-regs.ensures.taken.rest in
-    let s4 = ap (λ (k : Kernel). k.size) c.zero_keys-2.ensures.filled.rest ∙ ap (λ (k : Kernel). k.size) c.take_row-descriptors.ensures.taken.rest ∙ s2 in (
+    let p1 = rest-pages old k1 c.take_row-regs.ensures.taken.rest in
+    let p2 = keys-pages k1 k2 c.zero_keys.ensures.filled.rest ∙ p1 in
+    let p3 = rest-pages k2 k3 c.take_row-descriptors.ensures.taken.rest ∙ p2 in
+    let p4 = keys-pages k3 k4 c.zero_keys-2.ensures.filled.rest ∙ p3 in
+    let p5 = rest-pages k4 k5 c.take_row-root.ensures.taken.rest ∙ p4 in
+    let p6 = keys-pages k5 k6 c.fill_root.ensures.filled.fills.rest ∙ p5 in
+    let s2 = keys-size k1 k2 c.zero_keys.ensures.filled.rest ∙ rest-size old k1 c.take_row-regs.ensures.taken.rest in
+    let s4 = keys-size k3 k4 c.zero_keys-2.ensures.filled.rest ∙ rest-size k2 k3 c.take_row-descriptors.ensures.taken.rest ∙ s2 in (
       c.take_row-regs.result.0,
       c.take_row-descriptors.result.0,
       born_changes (g.T.Store.blocks c.args.store.now) (g.T.Store.blocks c.take_row-regs.new.store) (g.T.Store.blocks c.zero_keys.new.store) (g.T.Store.blocks c.take_row-descriptors.new.store) (g.T.Store.blocks c.zero_keys-2.new.store) (g.T.Store.blocks c.take_row-root.new.store) (g.T.Store.blocks c.fill_root.new.store) (g.T.Store.blocks c.put_slot.new.store)

@@ -1,6 +1,7 @@
 use Rattle.std.proofs.Common.{◌∙◌, ◌+◌, ap}
-use Rattle.kernel_tables.specs.Kernel.{Kernel, kernel_of}
+use Rattle.kernel_tables.specs.Kernel.{kernel_of}
 use Rattle.domain.specs.Rules.{written}
+use Rattle.domain.proofs.Kept.{keys-pages}
 use Rattle.domain.proofs.Writing.{writes_trans, same_block}
 use Rattle.domain.proofs.setters.put_numbers.Goals as goal
 
@@ -16,4 +17,4 @@ returns-clause-others g c =
 pub returns-clause-blocks : goal.returns-clause-blocks
 returns-clause-blocks g c =
     same_block (kernel_of (g.T.Store.memory c.args.store.now)).pages (kernel_of (g.T.Store.memory c.put_number.new.store)).pages c.args.root.0
-    (ap (λ (k : Kernel). k.pages) c.put_number.ensures.others.rest) c.put_number.ensures.blocks c.put_number-2.ensures.blocks
+    (keys-pages (kernel_of (g.T.Store.memory c.args.store.now)) (kernel_of (g.T.Store.memory c.put_number.new.store)) c.put_number.ensures.others.rest) c.put_number.ensures.blocks c.put_number-2.ensures.blocks

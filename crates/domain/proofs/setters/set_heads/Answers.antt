@@ -1,7 +1,6 @@
 use Rattle.std.proofs.Common.{◌∙◌, [], ◌∷◌, ap, arith}
 use Rattle.kernel_tables.specs.Kernel.{kernel_of}
 use Rattle.kernel_tables.specs.Rows.{domain_rows, fixed_rows}
-use Rattle.domain.specs.Domains.{domain_at, lives_by}
 use Rattle.domain.specs.Keys.{word_in}
 use Rattle.domain.proofs.DomainLaws.{live_meter, first_word, second_word, third_word}
 use Rattle.domain.proofs.Fits.{ids_fit, break_fits}
@@ -23,15 +22,14 @@ put_numbers-requires-clause-second_fits g c =
 
 pub returns-clause-set : goal.returns-clause-set
 returns-clause-set g c =
-    let old = kernel_of (g.T.Store.memory c.args.store.now) in
-    ap domain_at c.put_numbers.ensures.put
-    ∙ heads_set (domain_rows old) c.args.root.0 c.with_ids-ids.result c.number_of-rest.result c.args.heads c.requires.rows (live_meter (domain_rows old) c.args.root.0 c.requires.live)
+    let rows = domain_rows (kernel_of (g.T.Store.memory c.args.store.now)) in
+    heads_set rows (domain_rows (kernel_of (g.T.Store.memory c.put_numbers.new.store))) c.args.root.0 c.with_ids-ids.result c.number_of-rest.result c.args.heads
+    c.put_numbers.ensures.put c.requires.rows (live_meter rows c.args.root.0 c.requires.live)
     (c.with_ids-ids.ensures.words ∙ ap (λ key. c.args.heads.pid ∷ c.args.heads.parent ∷ word_in key 2 ∷ []) c.root_key.ensures) c.number_of-rest.ensures.words
 
 pub returns-clause-lives : goal.returns-clause-lives
 returns-clause-lives g c =
     let old = kernel_of (g.T.Store.memory c.args.store.now) in
     let new = kernel_of (g.T.Store.memory c.put_numbers.new.store) in
-    ap (λ rows. lives_by rows (fixed_rows new)) c.put_numbers.ensures.put
-    ∙ lives_two (domain_rows old) (fixed_rows new) c.args.root.0 7 8 c.with_ids-ids.result c.number_of-rest.result (omega arith) (omega arith)
-    ∙ ap (lives_by (domain_rows old)) c.put_numbers.ensures.others.fixed_now
+    lives_two (domain_rows old) (domain_rows new) (fixed_rows old) (fixed_rows new) c.args.root.0 7 8 c.with_ids-ids.result c.number_of-rest.result
+    c.put_numbers.ensures.put c.put_numbers.ensures.others.fixed_now (omega arith) (omega arith)

@@ -18,5 +18,4 @@ loop-n-preserved g c = record {
 pub returns : goal.returns
 returns g c =
     let ended = c.loop-n-test.false in
-    let within = c.loop-n.far-n in
     c.loop-n.invariant.fit ∙ ap (all_pass (λ k. nat_le (node_words (node_rows (kernel_of (g.T.Store.memory c.args.store.now)) c.args.node.0) k) 2048)) (let same : c.loop-n.n ≡ 32 = omega arith in same)

@@ -17,5 +17,4 @@ loop-n-preserved g c = record {
 pub returns : goal.returns
 returns g c =
     let ended = c.loop-n-test.false in
-    let within = c.loop-n.far-n in
     c.loop-n.invariant.nulls ∙ ap (all_pass (λ k. is_null (node_rows (kernel_of (g.T.Store.memory c.args.store.now)) c.args.node.0 (c.args.from + k)))) (let same : c.loop-n.n ≡ c.args.count = omega arith in same)

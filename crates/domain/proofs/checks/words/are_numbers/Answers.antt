@@ -18,5 +18,4 @@ loop-place-preserved g c = record {
 pub returns : goal.returns
 returns g c =
     let ended = c.loop-place-test.false in
-    let within = c.loop-place.far-place in
     c.loop-place.invariant.numbers ∙ ap (all_pass (λ k. is_number (node_rows (kernel_of (g.T.Store.memory c.args.store.now)) c.args.node.0 k))) (let same : c.loop-place.place ≡ 11 = omega arith in same)

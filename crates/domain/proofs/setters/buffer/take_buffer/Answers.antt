@@ -1,9 +1,10 @@
-use Rattle.std.proofs.Common.{◌-◌, [], ◌∷◌, ap, subst, arith}
-use Rattle.kernel_tables.specs.Kernel.{Kernel, kernel_of, first_page}
-use Rattle.kernel_tables.specs.Blocks.{ChangesBlocks, key_block, page_entry_block, machine_block}
+use Rattle.std.proofs.Common.{◌-◌, [], ◌∷◌, arith}
+use Rattle.kernel_tables.specs.Kernel.{kernel_of, first_page}
+use Rattle.kernel_tables.specs.Blocks.{key_block, page_entry_block, machine_block}
 use Rattle.space_bank.proofs.FullLaws.{no_page-free}
 use Rattle.domain.proofs.Pages.{mine_before, takes_buffer, buffer_rows}
-use Rattle.domain.proofs.BlockSets.{blocks_then}
+use Rattle.domain.proofs.BlockSets.{blocks_then, keys_changed}
+use Rattle.domain.proofs.Kept.{taken-pages}
 use Rattle.domain.proofs.setters.buffer.take_buffer.Goals as goal
 
 pub unreachable-requires : goal.unreachable-requires
@@ -30,7 +31,7 @@ returns-clause-rows g c =
 pub returns-clause-blocks : goal.returns-clause-blocks
 returns-clause-blocks g c =
     let old = kernel_of (g.T.Store.memory c.args.store.now) in
+    let mid = kernel_of (g.T.Store.memory c.take_page.new.store) in
     blocks_then (g.T.Store.blocks c.args.store.now) (g.T.Store.blocks c.take_page.new.store) (g.T.Store.blocks c.put_row.new.store)
     (page_entry_block (c.in-Some.id.0 - first_page old.size) ∷ machine_block ∷ []) (key_block old.pages c.args.root.0 ∷ []) c.in-Some.ensures.blocks
-    (subst (λ pages. ChangesBlocks (g.T.Store.blocks c.take_page.new.store) (g.T.Store.blocks c.put_row.new.store) (key_block pages c.args.root.0 ∷ []))
-    (ap (λ (k : Kernel). k.pages) c.in-Some.ensures.taken.state) c.put_row.ensures.blocks)
+    (keys_changed (g.T.Store.blocks c.take_page.new.store) (g.T.Store.blocks c.put_row.new.store) old.pages mid.pages c.args.root.0 (taken-pages old mid c.in-Some.ensures.taken) c.put_row.ensures.blocks)

@@ -1,8 +1,9 @@
-use Rattle.std.proofs.Common.{◌-◌, [], ◌∷◌, ap, subst}
-use Rattle.kernel_tables.specs.Kernel.{Kernel, kernel_of, first_page}
+use Rattle.std.proofs.Common.{◌-◌, [], ◌∷◌}
+use Rattle.kernel_tables.specs.Kernel.{kernel_of, first_page}
 use Rattle.kernel_tables.specs.Rows.{domain_rows}
-use Rattle.kernel_tables.specs.Blocks.{ChangesBlocks, key_block, page_entry_block, machine_block}
-use Rattle.domain.proofs.BlockSets.{blocks_then}
+use Rattle.kernel_tables.specs.Blocks.{key_block, page_entry_block, machine_block}
+use Rattle.kernel_forest.proofs.Rest.{put-size}
+use Rattle.domain.proofs.BlockSets.{blocks_then, page_changed}
 use Rattle.domain.proofs.DomainLaws.{live_meter}
 use Rattle.domain.proofs.Writing.{root_mine}
 use Rattle.domain.proofs.Pages.{still_buffer, taken_once, no_place, dropped_rows, drops_buffer}
@@ -43,7 +44,7 @@ returns-clause-rows g c =
 pub returns-clause-blocks : goal.returns-clause-blocks
 returns-clause-blocks g c =
     let old = kernel_of (g.T.Store.memory c.args.store.now) in
+    let mid = kernel_of (g.T.Store.memory c.put_row.new.store) in
     blocks_then (g.T.Store.blocks c.args.store.now) (g.T.Store.blocks c.put_row.new.store) (g.T.Store.blocks c.give_page.new.store)
     (key_block old.pages c.args.root.0 ∷ []) (c.args.page.0 ∷ page_entry_block (c.args.page.0 - first_page old.size) ∷ machine_block ∷ []) c.put_row.ensures.blocks
-    (subst (λ size. ChangesBlocks (g.T.Store.blocks c.put_row.new.store) (g.T.Store.blocks c.give_page.new.store) (c.args.page.0 ∷ page_entry_block (c.args.page.0 - first_page size) ∷ machine_block ∷ []))
-    (ap (λ (k : Kernel). k.size) c.put_row.ensures.put.state) c.give_page.ensures.blocks)
+    (page_changed (g.T.Store.blocks c.put_row.new.store) (g.T.Store.blocks c.give_page.new.store) old.size mid.size c.args.page.0 (put-size old mid c.put_row.ensures.put) c.give_page.ensures.blocks)

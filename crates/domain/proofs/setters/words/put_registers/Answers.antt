@@ -1,8 +1,9 @@
 use Rattle.std.proofs.Common.{◌∙◌, ◌%◌, ap, rules}
-use Rattle.kernel_tables.specs.Kernel.{Kernel, kernel_of}
+use Rattle.kernel_tables.specs.Kernel.{kernel_of}
 use Rattle.kernel_tables.specs.Rows.{domain_rows}
 use Rattle.kernel_tables.proofs.BlockLaws.{no_block}
 use Rattle.domain.specs.Domains.{words_by}
+use Rattle.domain.proofs.Kept.{keys-pages}
 use Rattle.domain.proofs.WordLaws.{holds_none, holds_more}
 use Rattle.domain.proofs.WordRows.{registers_fit}
 use Rattle.domain.proofs.Writing.{writes_none, writes_trans, same_block}
@@ -43,6 +44,6 @@ loop-place-preserved g c =
       named = (c.loop-place.invariant.named.0, c.put_words.ensures.names c.loop-place.invariant.named.0 3 ∙ c.loop-place.invariant.named.1);
       others = writes_trans old mid new c.loop-place.invariant.others c.put_words.ensures.others;
       good = c.put_words.ensures.good;
-      blocks = same_block old.pages mid.pages c.args.node.0 (ap (λ (k : Kernel). k.pages) c.loop-place.invariant.others.rest) c.loop-place.invariant.blocks c.put_words.ensures.blocks;
+      blocks = same_block old.pages mid.pages c.args.node.0 (keys-pages old mid c.loop-place.invariant.others.rest) c.loop-place.invariant.blocks c.put_words.ensures.blocks;
       kept = g.met.T.Store.keeps_trans c.args.store.now c.loop-place.store c.put_words.new.store c.loop-place.invariant.kept c.put_words.ensures.keeps;
     }

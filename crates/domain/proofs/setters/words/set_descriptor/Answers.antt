@@ -1,10 +1,11 @@
-use Rattle.std.proofs.Common.{◌∙◌, ap, set, ◌/◌, ◌%◌, subst, sym}
+use Rattle.std.proofs.Common.{◌∙◌, ap, ◌/◌, ◌%◌, subst, sym}
 use Rattle.kernel_tables.specs.Kernel.{kernel_of}
 use Rattle.kernel_tables.specs.Rows.{domain_rows, fixed_rows}
 use Rattle.kernel_tables.specs.Blocks.{ChangesBlocks}
+use Rattle.domain.specs.Keys.{words_in}
 use Rattle.domain.specs.Domains.{domain_at, lives_by}
 use Rattle.domain.specs.Sets.{node_blocks}
-use Rattle.domain.proofs.WordLaws.{descriptor_set, description_again, word_few, put_lives}
+use Rattle.domain.proofs.WordLaws.{descriptor_set, description_again, word_few, word_set, put_lives}
 use Rattle.domain.proofs.WordRows.{descriptor_fits}
 use Rattle.domain.proofs.setters.words.set_descriptor.Goals as goal
 
@@ -16,17 +17,20 @@ put_words-requires-clause-named g c = record { by = c.args.root.0; place = 4; na
 
 pub put_words-requires-clause-words : goal.put_words-requires-clause-words
 put_words-requires-clause-words g c =
-    descriptor_fits (domain_rows (kernel_of (g.T.Store.memory c.args.store.now))) c.node_of_words-node.result.0 c.args.number c.description_word.result c.with_word-key.result c.requires.rows
+    let rows = domain_rows (kernel_of (g.T.Store.memory c.args.store.now)) in
+    let row = rows c.node_of_words-node.result.0 in
+    descriptor_fits rows c.node_of_words-node.result.0 c.args.number c.description_word.result c.with_word-key.result c.requires.rows
     (c.args.root.0, c.node_of_words-node.ensures) c.requires.number (word_few c.args.description c.description_word.result c.description_word.ensures c.requires.description)
-    (c.with_word-key.ensures.words ∙ ap (λ words. set words (c.args.number % 3) c.description_word.result) c.words_at-words.ensures)
+    (word_set c.with_word-key.result c.words_at-words.result (words_in (row (c.args.number / 3))) (c.args.number % 3) c.description_word.result c.with_word-key.ensures.words c.words_at-words.ensures)
 
 pub returns-clause-set : goal.returns-clause-set
 returns-clause-set g c =
-    let old = kernel_of (g.T.Store.memory c.args.store.now) in
+    let rows = domain_rows (kernel_of (g.T.Store.memory c.args.store.now)) in
+    let row = rows c.node_of_words-node.result.0 in
     ap domain_at c.put_words.ensures.put
-    ∙ descriptor_set (domain_rows old) c.args.root.0 c.node_of_words-node.result.0 c.args.number c.description_word.result c.with_word-key.result c.args.description
+    ∙ descriptor_set rows c.args.root.0 c.node_of_words-node.result.0 c.args.number c.description_word.result c.with_word-key.result c.args.description
     c.requires.rows c.requires.live c.node_of_words-node.ensures c.requires.number c.with_word-key.ensures.number
-    (c.with_word-key.ensures.words ∙ ap (λ words. set words (c.args.number % 3) c.description_word.result) c.words_at-words.ensures)
+    (word_set c.with_word-key.result c.words_at-words.result (words_in (row (c.args.number / 3))) (c.args.number % 3) c.description_word.result c.with_word-key.ensures.words c.words_at-words.ensures)
     (description_again c.args.description c.description_word.result c.description_word.ensures c.requires.description)
 
 pub returns-clause-lives : goal.returns-clause-lives
