@@ -5,11 +5,12 @@ use Rattle.std.proofs.lemmas.Bool.{cases_Bool}
 use Rattle.kn_base.specs.declared.key.Key.{Key}
 use Rattle.kn_base.specs.declared.key.Key.TheVariants.{Null, Number, Page, Node, Segment, Start, Resume, Domain, Meter, Service}
 use Rattle.kn_base.specs.declared.key.NodeId.{NodeId}
-use Rattle.unix_model.specs.Tables.{sum_below}
+use Rattle.unix_model.specs.Tables.{at, sum_below}
 use Rattle.forest.specs.Objects.{NodeObject, named}
 use Rattle.forest.specs.Walks.{place_of, key_below, mapping_of}
 use Rattle.forest.specs.Forest.{Forest, Sound}
-use Rattle.forest.specs.Mapped.{pages_below}
+use Rattle.forest.specs.Mapped.{mapped, pages_below}
+use Rattle.forest.proofs.MappedLaws.{mapped_is_sum}
 use Rattle.forest.proofs.OwnLaws.{owned_object}
 use Rattle.forest.proofs.WalkLaws.{step}
 
@@ -51,7 +52,7 @@ sum_none f (suc n) none = let rest = sum_none f n none in let here = none n in o
 pub sum_few : (f : ℕ → ℕ) (n : ℕ) → ((k : ℕ) → f k ≤ 65536) → sum_below f n ≤ n * 65536
 sum_few f n few = sum_most f n 65536 few
 
-pub none_so_far : (f : ℕ → ℕ) → sum_below f 0 ≡ 0
+pub none_so_far : (f : ℕ → ℕ) → 0 ≡ sum_below f 0
 unfolding sum_below
 none_so_far f = refl
 
@@ -59,20 +60,37 @@ pub one_more_part : (f : ℕ → ℕ) (n pages part : ℕ) → pages ≡ sum_bel
 unfolding sum_below
 one_more_part f n pages part so_far here = rw (add-one n) (omega arith)
 
-pub pages_leaf : (keys : ℕ → Key) (key : Key) (levels : ℕ) → levels ≡ 0 → pages_below keys key levels ≡ pages_below keys key 0
-pages_leaf keys key levels e = ap (pages_below keys key) e
+-- the key may be told in another way
+pub pages_told : (keys : ℕ → Key) (key told : Key) (levels pages : ℕ) → key ≡ told → pages ≡ pages_below keys key levels → pages ≡ pages_below keys told levels
+pages_told keys key told levels pages same is = is ∙ ap (λ k. pages_below keys k levels) same
 
-pub pages_split : (keys : ℕ → Key) (key : Key) (levels : ℕ) → levels ≢ 0
+pub pages_leaf : (keys : ℕ → Key) (key : Key) (levels pages : ℕ) → levels ≡ 0 → pages ≡ pages_below keys key 0 → pages ≡ pages_below keys key levels
+pages_leaf keys key levels pages e is = is ∙ ap (pages_below keys key) (sym e)
+
+pages_split : (keys : ℕ → Key) (key : Key) (levels : ℕ) → levels ≢ 0
     → pages_below keys key levels ≡ sum_below (λ digit. pages_below keys (key_below keys key digit) (levels - 1)) 16
 pages_split keys key zero some = absurd (some refl)
 pages_split keys key (suc levels) some =
     let e : suc levels - 1 ≡ levels = omega arith in
     ap (λ n. sum_below (λ digit. pages_below keys (key_below keys key digit) n) 16) (sym e)
 
-pub below_owned : (forest : Forest) → Sound forest → (upper : Key) (digit node : ℕ) → named (key_below forest.keys upper digit) ≡ Some (NodeObject node) → IsSome (forest.owner (NodeObject node))
-below_owned forest sound upper digit node h =
-    let s = step forest.keys upper digit (NodeObject node) h in
+-- all parts of a key that has levels below it, ..
+pub pages_parts : (keys : ℕ → Key) (key : Key) (levels digit pages : ℕ) → levels ≢ 0 → digit ≡ 16
+    → pages ≡ sum_below (λ d. pages_below keys (key_below keys key d) (levels - 1)) digit → pages ≡ pages_below keys key levels
+pages_parts keys key levels digit pages some all is = is ∙ ap (sum_below (λ d. pages_below keys (key_below keys key d) (levels - 1))) all ∙ sym (pages_split keys key levels some)
+
+-- .. and the eight of a space
+pub mapped_parts : (keys : ℕ → Key) (space digit pages : ℕ) → digit ≡ 8 → pages ≡ sum_below (λ d. pages_below keys (at keys (place_of space d)) 4) digit → pages ≡ mapped keys space
+mapped_parts keys space digit pages all is = is ∙ ap (sum_below (λ d. pages_below keys (at keys (place_of space d)) 4)) all ∙ sym (mapped_is_sum keys space)
+
+-- a node that the key found there names belongs to a tree
+pub below_owned : (forest : Forest) → Sound forest → (upper key : Key) (digit node : ℕ) → key ≡ key_below forest.keys upper digit → named key ≡ Some (NodeObject node) → IsSome (forest.owner (NodeObject node))
+below_owned forest sound upper key digit node is h =
+    let s = step forest.keys upper digit (NodeObject node) (ap named (sym is) ∙ h) in
     owned_object forest sound (place_of s.node digit) (NodeObject node) s.here
+
+pub place_owned : (forest : Forest) → Sound forest → (key : Key) (place node : ℕ) → key ≡ at forest.keys place → named key ≡ Some (NodeObject node) → IsSome (forest.owner (NodeObject node))
+place_owned forest sound key place node is h = owned_object forest sound place (NodeObject node) (ap named (sym is) ∙ h)
 
 -- below Null no page stands, ..
 nothing_below : (keys : ℕ → Key) (levels : ℕ) → pages_below keys Null levels ≡ 0

@@ -1,5 +1,5 @@
 -- Empty nodes are taken out of a tree, from below upwards.
-use Rattle.std.proofs.Common.{nat_lt, if◌then◌else◌, true, false, ◌^◌, ◌≡◌, ◌≢◌, ◌<◌, ◌≤◌, ◌+◌, ◌-◌, ◌*◌, ◌/◌, ◌%◌, ◌↔◌, ◌==◌, ℕ, Some, None, [], ◌∷◌, refl, ap, sym, subst, ◌∙◌, arith, ⊎_elim}
+use Rattle.std.proofs.Common.{nat_lt, if◌then◌else◌, true, false, ◌^◌, ◌≡◌, ◌≢◌, ◌<◌, ◌≤◌, ◌+◌, ◌-◌, ◌*◌, ◌/◌, ◌%◌, ◌↔◌, ◌==◌, ℕ, Option, Some, None, [], ◌∷◌, refl, ap, sym, subst, ◌∙◌, arith, ⊎_elim}
 use Rattle.std.specs.Option.{is_some, IsSome}
 use Rattle.std.proofs.lemmas.Bool.{cases_Bool, cases_lt}
 use Rattle.kn_base.specs.declared.key.Key.{Key}
@@ -11,7 +11,7 @@ use Rattle.space_bank.specs.Bank.{BankGood, IsTakenOnce, node_given}
 use Rattle.space_bank.specs.Shares.{Outside, TakesNodeOutOfHand, node_places}
 use Rattle.unix_model.specs.Tables.{at, with_at}
 use Rattle.forest.specs.Objects.{Object, PageObject, NodeObject, named}
-use Rattle.forest.specs.Walks.{mapping_of, key_at_page, place_of, key_along, space_key, digits, map_of}
+use Rattle.forest.specs.Walks.{Mapping, mapping_of, key_at_page, place_of, key_along, space_key, digits, map_of}
 use Rattle.forest.specs.Forest.{Forest, Held, Sound, IsSpace, EndsAt, OwnWay, NoneEmpty, NoneEmptyBut, key_height, namings, node_way}
 use Rattle.forest.specs.Changes.{with_given, KeepsRoot}
 use Rattle.forest.proofs.RootLaws.{root_trans}
@@ -174,6 +174,10 @@ prunes_none kernel = record {
   pages = λ number. refl;
   fewer = omega arith;
 }
+
+-- what is mapped after nodes were taken out was mapped before
+pub mapped_before : (old new : Kernel) (space page : ℕ) → Prunes old new → IsSpace (forest_of old) [] space → IsSome (map_of (forest_of new).keys space page) → IsSome (map_of (forest_of old).keys space page)
+mapped_before old new space page prunes is mapped = ap (λ (map : ℕ → Option Mapping). is_some (map page)) (sym (prunes.spaces space is).1) ∙ mapped
 
 pub prunes_trans : (k0 k1 k2 : Kernel) → Prunes k0 k1 → Prunes k1 k2 → Prunes k0 k2
 prunes_trans k0 k1 k2 first second = record {

@@ -15,17 +15,28 @@ use Rattle.seg_tree.proofs.Emptiness.{no_node}
 use Rattle.seg_tree.specs.Steps.{segment_of}
 
 -- what is shown of so many digits
-pub all_more : (P : ℕ → Type 0) (digit : ℕ) (so_far here : Bool) → (so_far ≡ true → (d : ℕ) → d < digit → P d) → (here ≡ true → P digit) → (so_far && here) ≡ true → (d : ℕ) → d < digit + 1 → P d
+all_more : (P : ℕ → Type 0) (digit : ℕ) (so_far here : Bool) → (so_far ≡ true → (d : ℕ) → d < digit → P d) → (here ≡ true → P digit) → (so_far && here) ≡ true → (d : ℕ) → d < digit + 1 → P d
 all_more P digit true here before now e d less = ⊎_elim
     (λ (t : d ≡ digit). subst P (sym t) (now e))
     (λ (t : d ≢ digit). before refl d (omega arith))
     (cases_eq d digit)
 all_more P digit false here before now e d less = cc
 
-pub some_more : (P : ℕ → Type 0) (digit : ℕ) (so_far here : Bool) → (so_far ≡ false → (d : ℕ) × (d < digit) × (P d → ⊥)) → (here ≡ false → P digit → ⊥) → (so_far && here) ≡ false
+some_more : (P : ℕ → Type 0) (digit : ℕ) (so_far here : Bool) → (so_far ≡ false → (d : ℕ) × (d < digit) × (P d → ⊥)) → (here ≡ false → P digit → ⊥) → (so_far && here) ≡ false
     → (d : ℕ) × (d < digit + 1) × (P d → ⊥)
 some_more P digit true here before now e = (digit, omega arith, now e)
 some_more P digit false here before now e = let some = before refl in let below = some.1 in (some.0, omega arith, some.2)
+
+-- .. of parts, where the key that was looked at is told in another way
+pub parts_more : (keys places : ℕ → Key) (height digit : ℕ) (so_far here both : Bool) (key : Key) → (so_far ≡ true → (d : ℕ) → d < digit → IsPart keys height (places d)) → (here ≡ true → IsPart keys height key)
+    → key ≡ places digit → both ≡ (so_far && here) → both ≡ true → (d : ℕ) → d < digit + 1 → IsPart keys height (places d)
+parts_more keys places height digit so_far here both key before now is all e =
+    all_more (λ d. IsPart keys height (places d)) digit so_far here before (λ t. subst (IsPart keys height) is (now t)) (sym all ∙ e)
+
+pub no_parts_more : (keys places : ℕ → Key) (height digit : ℕ) (so_far here both : Bool) (key : Key) → (so_far ≡ false → (d : ℕ) × (d < digit) × (IsPart keys height (places d) → ⊥))
+    → (here ≡ false → IsPart keys height key → ⊥) → key ≡ places digit → both ≡ (so_far && here) → both ≡ false → (d : ℕ) × (d < digit + 1) × (IsPart keys height (places d) → ⊥)
+no_parts_more keys places height digit so_far here both key before now is all e =
+    some_more (λ d. IsPart keys height (places d)) digit so_far here before (λ t part. now t (subst (IsPart keys height) (sym is) part)) (sym all ∙ e)
 
 -- a part, with the level below by subtraction
 abbrev pub PartAt : (ℕ → Key) → ℕ → Key → Type 0
@@ -161,16 +172,26 @@ whole_by true other e first second = (first refl, second e)
 whole_by false other e first second = cc
 
 -- the key below another one
-pub below_at : (keys : ℕ → Key) (upper : Key) (node : NodeId) (height digit : ℕ) → upper ≡ Segment node height → keys (16 * node.0 + digit) ≡ key_below keys upper digit
+pub below_at : (keys : ℕ → Key) (upper key : Key) (node : NodeId) (height digit : ℕ) → upper ≡ Segment node height → key ≡ keys (16 * node.0 + digit) → key ≡ key_below keys upper digit
 unfolding at
-below_at keys upper node height digit is = ap (λ k. key_below keys k digit) (sym is)
+below_at keys upper key node height digit is key_is = key_is ∙ ap (λ k. key_below keys k digit) (sym is)
 
-pub below_none : (keys : ℕ → Key) (upper : Key) (digit : ℕ) → ((node : NodeId) (height : ℕ) → upper ≡ Segment node height → ⊥) → key_below keys upper digit ≡ Null
+pub below_none : (keys : ℕ → Key) (upper : Key) (digit : ℕ) → ((node : NodeId) (height : ℕ) → upper ≡ Segment node height → ⊥) → Null ≡ key_below keys upper digit
 below_none keys (Segment node height) digit none = absurd (none node height refl)
 below_none keys _ digit none = refl
 
-pub below_in_range : (keys : ℕ → Key) (nodes : ℕ) → ((place node : ℕ) → named (keys place) ≡ Some (NodeObject node) → node < nodes) → (upper : Key) (digit node : ℕ)
+below_in_range : (keys : ℕ → Key) (nodes : ℕ) → ((place node : ℕ) → named (keys place) ≡ Some (NodeObject node) → node < nodes) → (upper : Key) (digit node : ℕ)
     → named (key_below keys upper digit) ≡ Some (NodeObject node) → node < nodes
 unfolding at
 below_in_range keys nodes all (Segment n height) digit node h = all (place_of n.0 digit) node h
 below_in_range keys nodes all _ digit node h = cc
+
+-- the key that was found there names a node in range, ..
+pub named_in_range : (keys : ℕ → Key) (nodes : ℕ) → ((place node : ℕ) → named (keys place) ≡ Some (NodeObject node) → node < nodes) → (upper key : Key) (digit node : ℕ)
+    → key ≡ key_below keys upper digit → named key ≡ Some (NodeObject node) → node < nodes
+named_in_range keys nodes all upper key digit node is h = below_in_range keys nodes all upper digit node (ap named (sym is) ∙ h)
+
+-- .. as does the key that was found at a place
+pub place_in_range : (keys : ℕ → Key) (nodes : ℕ) → ((place node : ℕ) → named (keys place) ≡ Some (NodeObject node) → node < nodes) → (key : Key) (place node : ℕ)
+    → key ≡ keys place → named key ≡ Some (NodeObject node) → node < nodes
+place_in_range keys nodes all key place node is h = all place node (ap named (sym is) ∙ h)

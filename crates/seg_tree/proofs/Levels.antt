@@ -1,6 +1,6 @@
 -- Down a way, level by level.
 use Rattle.std.proofs.Common.{◌≡◌, ◌≢◌, ◌<◌, ◌≤◌, ◌+◌, ◌-◌, ◌*◌, ◌/◌, ◌%◌, ◌^◌, ℕ, zero, suc, Option, Some, None, List, [], ◌∷◌, length, true, false, refl, ap, sym, subst, ◌∙◌, arith, ⊎_elim, add-zero}
-use Rattle.std.specs.Option.{IsSome}
+use Rattle.std.specs.Option.{is_some, IsSome}
 use Rattle.std.proofs.lemmas.Bool.{cases_lt, cases_Bool}
 use Rattle.kn_base.specs.declared.key.Key.{Key}
 use Rattle.kn_base.specs.declared.key.Key.TheVariants.{Segment}
@@ -104,7 +104,7 @@ pub record Begins (kernel : Kernel) (outside : Outside) (hand : List Key) (space
   pub is_space : IsSpace (forest_of kernel) hand space
   pub owner : (forest_of kernel).owner (NodeObject space) ≡ Some to
 
-pub descends_root : (kernel : Kernel) (outside : Outside) (hand : List Key) (space : ℕ) (to : Owner) → TreesGood kernel outside hand → Descends kernel kernel outside hand space to [] space
+descends_root : (kernel : Kernel) (outside : Outside) (hand : List Key) (space : ℕ) (to : Owner) → TreesGood kernel outside hand → Descends kernel kernel outside hand space to [] space
 descends_root kernel outside hand space to trees = record {
   taken = 0;
   made = root;
@@ -219,6 +219,27 @@ digits-way (suc levels) number = (omega arith, digits-way levels (number / 16))
 pub some_owner : (o : Option Owner) → IsSome o → (to : Owner) × (o ≡ Some to)
 some_owner None h = cc
 some_owner (Some to) h = (to, refl)
+
+-- whose tree a node belongs to, told in another way
+pub told_owner : (kernel : Kernel) (node : ℕ) (told : Option Owner) → (forest_of kernel).owner (NodeObject node) ≡ told → IsSome ((forest_of kernel).owner (NodeObject node))
+    → (to : Owner) × (told ≡ Some to) × ((forest_of kernel).owner (NodeObject node) ≡ Some to)
+told_owner kernel node told is some = let owner = some_owner ((forest_of kernel).owner (NodeObject node)) some in (owner.0, sym is ∙ owner.1, owner.1)
+
+pub owner_told : (kernel : Kernel) (node : ℕ) (told : Option Owner) (to : Owner) → (forest_of kernel).owner (NodeObject node) ≡ told → told ≡ Some to → (forest_of kernel).owner (NodeObject node) ≡ Some to
+owner_told kernel node told to is tree = is ∙ tree
+
+-- .. and whose tree another thing is of, which is the node's
+pub some_told : (kernel : Kernel) (node : ℕ) (told : Option Owner) → told ≡ (forest_of kernel).owner (NodeObject node) → IsSome ((forest_of kernel).owner (NodeObject node)) → IsSome told
+some_told kernel node told is some = ap is_some is ∙ some
+
+pub tree_told : (kernel : Kernel) (node : ℕ) (told : Option Owner) (to : Owner) → told ≡ (forest_of kernel).owner (NodeObject node) → (forest_of kernel).owner (NodeObject node) ≡ Some to → told ≡ Some to
+tree_told kernel node told to is owner = is ∙ owner
+
+-- no level is gone down
+pub descends_none : (kernel : Kernel) (outside : Outside) (hand : List Key) (space levels number : ℕ) (to : Owner) → levels ≡ 0 → TreesGood kernel outside hand
+    → Descends kernel kernel outside hand space to (digits levels number) space
+descends_none kernel outside hand space levels number to none trees =
+    subst (λ way. Descends kernel kernel outside hand space to way space) (sym (digits-zero levels number none)) (descends_root kernel outside hand space to trees)
 
 -- one level of a descent to a number
 pub record Level (old mid : Kernel) (outside : Outside) (hand : List Key) (space : ℕ) (to : Owner) (levels number above : ℕ) : Type 0 where

@@ -26,6 +26,8 @@ use Rattle.forest.proofs.OwnMaps.{page_way-parts, length-node_way, way_of_node, 
 use Rattle.forest.proofs.ReleaseLaws.{no_name}
 use Rattle.kernel_forest.specs.Trees.{forest_of, outside_trees, IsTreeKey, TreesGood}
 use Rattle.kernel_forest.specs.Moves.{PutsKey}
+use Rattle.kernel_forest.specs.Apart.{KeepsInside}
+use Rattle.kernel_forest.proofs.ApartLaws.{inside_same}
 use Rattle.seg_tree.specs.Steps.{Descends}
 use Rattle.kernel_forest.proofs.Moves.{uncounted_in_hand}
 use Rattle.seg_tree.proofs.Copying.{rest_trans}
@@ -67,7 +69,7 @@ pub map_here : (keys : ℕ → Key) (space page : ℕ) → page < 2 ^ 19 → map
 unfolding map_of
 map_here keys space page below = rw (lt-ltb page (2 ^ 19) below) (ap (λ way. mapping_of (key_along keys (space_key space) way)) (page_way-parts page))
 
-pub leaf_null : (key : Key) → FitsUnder 1 key → mapping_of key ≡ None → key ≡ Null
+leaf_null : (key : Key) → FitsUnder 1 key → mapping_of key ≡ None → key ≡ Null
 leaf_null Null fits none = refl
 leaf_null (Page page writable) fits none = cc
 leaf_null (Segment node height) fits none = let positive = fits.0 in let next = fits.1 in absurd (omega arith)
@@ -269,3 +271,20 @@ puts_leaf old mid put space page node to key fits below is_space owner owners kn
       most = put_most old mid known space page node to key fits below known_trees is_space owner owners d put puts;
       none = put_none old mid known space page node to key fits below known_trees is_space owner owners d put puts;
     }
+
+-- .. where the key that stood there is told in another way
+pub leaf_told : (old new : Kernel) (space page : ℕ) (key was told : Key) → was ≡ told → PutsLeaf old new space page key told → PutsLeaf old new space page key was
+leaf_told old new space page key was told is put = subst (λ (k : Key). PutsLeaf old new space page key k) (sym is) put
+
+-- what a key names is of the space's tree
+pub owners_told : (kernel : Kernel) (key : Key) (space : ℕ) (to : Owner) → ((object : Object) → named key ≡ Some object → (forest_of kernel).owner object ≡ (forest_of kernel).owner (NodeObject space))
+    → (forest_of kernel).owner (NodeObject space) ≡ Some to → (object : Object) → named key ≡ Some object → (forest_of kernel).owner object ≡ Some to
+owners_told kernel key space to owners is object h = owners object h ∙ is
+
+-- a page that a tree has after a key was put is one that it had
+pub put_inside : (old new : Kernel) (space page : ℕ) (key was : Key) → PutsLeaf old new space page key was → (outside : Outside) → KeepsInside old new outside
+put_inside old new space page key was put outside = inside_same old new outside (put.outside_now outside) (λ number some. ap is_some (sym (put.pages_now number)) ∙ some)
+
+-- nothing stood where nothing was mapped
+pub was_null : (old new : Kernel) (space page : ℕ) (key was : Key) → PutsLeaf old new space page key was → map_of (forest_of old).keys space page ≡ None → was ≡ Null
+was_null old new space page key was put none = leaf_null was put.leaf (put.mapping ∙ none)

@@ -1,21 +1,23 @@
 -- The calls that put a fresh node in its place, put together.
-use Rattle.std.proofs.Common.{◌≡◌, ◌≢◌, ◌≤◌, ◌+◌, ◌-◌, ◌%◌, ℕ, Some, None, ◌∷◌, refl, ap, sym, subst, ◌∙◌, arith, ⊎_elim}
+use Rattle.std.proofs.Common.{◌≡◌, ◌≢◌, ◌≤◌, ◌+◌, ◌-◌, ◌%◌, ℕ, Option, Some, None, ◌∷◌, refl, ap, sym, subst, ◌∙◌, arith, ⊎_elim}
 use Rattle.std.specs.Option.{is_some, IsSome}
 use Rattle.kn_base.specs.declared.key.Key.{Key}
 use Rattle.kn_base.specs.declared.key.Key.TheVariants.{Null, Page, Segment}
 use Rattle.kn_base.specs.declared.key.NodeId.{NodeId}
 use Rattle.kernel_tables.specs.Kernel.{Kernel}
+use Rattle.kernel_tables.specs.Rows.{entry_at}
+use Rattle.space_bank.specs.FreeList.{shares}
 use Rattle.space_bank.specs.Shares.{Shares}
 use Rattle.unix_model.specs.Tables.{at, with_at}
 use Rattle.forest.specs.Objects.{Object, NodeObject, Owner, named}
 use Rattle.forest.specs.Walks.{place_of}
 use Rattle.forest.specs.Forest.{Forest, FitsUnder, CountedOnce}
 use Rattle.forest.specs.Changes.{with_key, with_taken, lowered, with_copy}
-use Rattle.forest.proofs.CopyLaws.{once}
+use Rattle.forest.proofs.CopyLaws.{counted_once, once}
 use Rattle.kernel_forest.specs.Trees.{forest_of, IsTreeKey}
 use Rattle.kernel_forest.specs.Moves.{Changes, TakesFresh, PutsKey, LowersKey}
-use Rattle.seg_tree.specs.Steps.{MayCopy, MayOwn, FreshChild, copying, segment_of}
-use Rattle.kernel_forest.proofs.Moves.{uncounted_in_hand}
+use Rattle.seg_tree.specs.Steps.{MayCopy, MayOwn, FreshChild, OwnsChild, kept_child, copying, segment_of}
+use Rattle.kernel_forest.proofs.Moves.{node_shares, uncounted_in_hand}
 use Rattle.seg_tree.proofs.Copying.{steps_trans, steps_to}
 use Rattle.forest.proofs.CopyLaws.{none_below}
 use Rattle.forest.specs.Objects.{names, with_object}
@@ -51,6 +53,9 @@ module _ (k0 k1 k2 k3 k4 : Kernel) (node digit height : ℕ) (child fresh : Node
   pub still_stands : Changes k1 k2 (copying (forest_of k1) child.0 fresh.0 16) 0 → at (forest_of k2).keys (place_of node digit) ≡ Segment child height
   still_stands copies =
       ap (λ (f : Forest). at f.keys (place_of node digit)) (copied_forest copies) ∙ stands_now (forest_of k0) node digit child.0 height fresh.0 to sharing
+
+  pub still_tree : Changes k1 k2 (copying (forest_of k1) child.0 fresh.0 16) 0 → IsTreeKey (at (forest_of k2).keys (place_of node digit))
+  still_tree copies = subst IsTreeKey (sym (still_stands copies)) tt
 
   pub put_forest : Changes k1 k2 (copying (forest_of k1) child.0 fresh.0 16) 0 → PutsKey k2 k3 (place_of node digit) (Segment fresh height)
       → forest_of k3 ≡ with_key (copying (with_taken (forest_of k0) (NodeObject fresh.0) to) child.0 fresh.0 16) (place_of node digit) (Segment fresh height)
@@ -162,7 +167,7 @@ still_null k0 k1 fresh to place takes empty =
     subst IsTreeKey (sym (ap (λ (f : Forest). at f.keys place) takes.steps.forest_now ∙ empty)) tt
 
 -- what stands at a place of a node above pages' nodes: a node of the next lower height, or nothing
-pub segment_some : (height : ℕ) (key : Key) (node : NodeId) → FitsUnder (height + 1) key → segment_of key ≡ Some node → key ≡ Segment node height
+segment_some : (height : ℕ) (key : Key) (node : NodeId) → FitsUnder (height + 1) key → segment_of key ≡ Some node → key ≡ Segment node height
 segment_some height (Segment n low) node fits e =
     let next = fits.1 in
     let is : n ≡ node = cc in
@@ -171,6 +176,12 @@ segment_some height (Segment n low) node fits e =
 segment_some height (Page page writable) node fits e = cc
 segment_some height Null node fits e = cc
 segment_some height _ node fits e = absurd fits
+
+-- .. as it is found there
+pub child_stands : (forest : Forest) (node digit height : ℕ) (to : Owner) (key : Key) (told : Option NodeId) (child : NodeId) → MayOwn forest node digit height to → key ≡ at forest.keys (place_of node digit)
+    → told ≡ segment_of key → told ≡ Some child → at forest.keys (place_of node digit) ≡ Segment child height
+child_stands forest node digit height to key told child may is names some =
+    segment_some height (at forest.keys (place_of node digit)) child may.fits (ap segment_of (sym is) ∙ sym names ∙ some)
 
 pub segment_none : (height : ℕ) (key : Key) → 1 ≤ height → FitsUnder (height + 1) key → segment_of key ≡ None → key ≡ Null
 segment_none height (Segment n low) positive fits e = cc
@@ -181,3 +192,20 @@ segment_none height _ positive fits e = absurd fits
 pub named_owned : (forest : Forest) (node digit height : ℕ) (to : Owner) (child : NodeId) → MayOwn forest node digit height to
     → at forest.keys (place_of node digit) ≡ Segment child height → IsSome (forest.owner (NodeObject child.0))
 named_owned forest node digit height to child may stands = owned_object forest may.sound (place_of node digit) (NodeObject child.0) (ap named stands)
+
+-- a node of a tree is counted as often as is told
+pub once_told : (kernel : Kernel) (node count : ℕ) → IsSome ((forest_of kernel).owner (NodeObject node)) → count ≡ shares (entry_at kernel.node_entries node) → count ≡ 1
+    → (forest_of kernel).count (NodeObject node) ≡ 1
+once_told kernel node count owned told one = node_shares kernel node owned ∙ sym told ∙ one
+
+pub not_once_told : (kernel : Kernel) (node count : ℕ) → IsSome ((forest_of kernel).owner (NodeObject node)) → count ≡ shares (entry_at kernel.node_entries node) → count ≢ 1
+    → (forest_of kernel).count (NodeObject node) ≢ 1
+not_once_told kernel node count owned told many one = many (told ∙ sym (node_shares kernel node owned) ∙ one)
+
+-- a child that is counted once is the node's own
+pub own_already : (kernel : Kernel) (node digit height count : ℕ) (known to : Owner) (child : NodeId) → MayOwn (forest_of kernel) node digit height known
+    → at (forest_of kernel).keys (place_of node digit) ≡ Segment child height → count ≡ shares (entry_at kernel.node_entries child.0) → count ≡ 1
+    → OwnsChild kernel kernel (place_of node digit) height to child.0
+own_already kernel node digit height count known to child may stands told one =
+    let counted = once_told kernel child.0 count (named_owned (forest_of kernel) node digit height known child may stands) told one in
+    kept_child (counted_once (forest_of kernel) (at (forest_of kernel).keys (place_of node digit)) (NodeObject child.0) (ap named stands) counted) (ap named stands) refl

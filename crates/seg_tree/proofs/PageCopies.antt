@@ -2,6 +2,7 @@
 use Rattle.std.proofs.Common.{◌≡◌, ◌≢◌, ◌<◌, ◌≤◌, ◌-◌, ◌==◌, ◌&&◌, not, ℕ, Bool, true, false, Some, List, [], ◌∷◌, length, get_or-set_same, get_or-set_other, refl, ap, sym, subst, ◌∙◌, arith, add-zero, ◌⊎◌, inl, inr, ⊎_elim}
 use Rattle.std.specs.Option.{is_some, IsSome}
 use Rattle.std.proofs.lemmas.Bool.{ne_eqb, cases_eq}
+use Rattle.kn_base.specs.declared.key.Key.{Key}
 use Rattle.kn_base.specs.declared.key.Key.TheVariants.{Page}
 use Rattle.kn_base.specs.declared.key.PageId.{PageId}
 use Rattle.kn_base.specs.Memory.{zero_page}
@@ -49,12 +50,12 @@ in_use kernel page good owned =
     }
 
 -- what a walk ends at is page 0, or in use
-pub way_in_use : (kernel : Kernel) (space : ℕ) (way : List ℕ) (page : PageId) (writable : Bool) → BankGood kernel → Sound (forest_of kernel) → IsSpace (forest_of kernel) [] space
-    → key_along (forest_of kernel).keys (space_key space) way ≡ Page page writable → (page.0 ≡ 0) ⊎ IsInUse kernel page.0
-way_in_use kernel space way page writable good sound is e = ⊎_elim
+pub way_in_use : (kernel : Kernel) (space : ℕ) (way : List ℕ) (key : Key) (page : PageId) (writable : Bool) → BankGood kernel → Sound (forest_of kernel) → IsSpace (forest_of kernel) [] space
+    → key ≡ key_along (forest_of kernel).keys (space_key space) way → key ≡ Page page writable → (page.0 ≡ 0) ⊎ IsInUse kernel page.0
+way_in_use kernel space way key page writable good sound is ends e = ⊎_elim
     (λ (t : page.0 ≡ 0). inl t)
     (λ (t : page.0 ≢ 0). inr (in_use kernel page.0 good (end_owned (forest_of kernel) [] sound space is way (PageObject page.0)
-    (ap named e ∙ rw (ne_eqb page.0 0 t) refl))))
+    (ap named (sym ends ∙ e) ∙ rw (ne_eqb page.0 0 t) refl))))
     (cases_eq page.0 0)
 
 memory_real : (kernel : Kernel) (page : ℕ) → page ≢ 0 → memory_page kernel page ≡ bank_page kernel page

@@ -43,9 +43,16 @@ use Rattle.seg_tree.proofs.Copying.{more_owner, more_keys, rest_trans}
 use Rattle.seg_tree.proofs.Levels.{few_named}
 use Rattle.seg_tree.proofs.Mapping.{map_here}
 
-abbrev pub page_or_zero : Option Mapping → ℕ
+abbrev page_or_zero : Option Mapping → ℕ
 page_or_zero None = 0
 page_or_zero (Some mapping) = mapping.page
+
+-- the page that was found is the one that is mapped
+pub page_is : (map : Option Mapping) (writable : Bool) (page : ℕ) (found : Mapping) → Some (record { writable = writable; page = page }) ≡ map → map ≡ Some found → page ≡ found.page
+page_is map writable page found told is = ap page_or_zero (told ∙ is)
+
+pub none_is : (map : Option Mapping) (found : Mapping) → None ≡ map → map ≡ Some found → ⊥
+none_is map found told is = let no : None ≡ Some found = told ∙ is in cc
 
 -- the key of the same page, however it may be used, names the same
 same_page : (key : Key) (writable other : Bool) (id : PageId) → mapping_of key ≡ Some (record { writable = writable; page = id.0 }) → named key ≡ named (Page id other)

@@ -1,17 +1,15 @@
-use Rattle.std.proofs.Common.{◌≡◌, ◌-◌, ap, sym, ◌∙◌, arith, rules}
+use Rattle.std.proofs.Common.{◌≡◌, ◌-◌, arith, rules}
 use Rattle.kernel_tables.specs.Kernel.{kernel_of}
-use Rattle.unix_model.specs.Tables.{sum_below}
-use Rattle.forest.specs.Objects.{named}
 use Rattle.forest.specs.Walks.{key_below}
 use Rattle.forest.specs.Mapped.{pages_below}
 use Rattle.kernel_forest.specs.Trees.{forest_of}
-use Rattle.seg_tree.proofs.Counting.{below_few, sum_few, none_so_far, one_more_part, pages_leaf, pages_split, below_owned}
+use Rattle.seg_tree.proofs.Counting.{below_few, sum_few, none_so_far, one_more_part, pages_told, pages_leaf, pages_parts, below_owned}
 use Rattle.seg_tree.proofs.count.+pages_below.Goals as goal
 
 pub returns-then-levels-eq0 : goal.returns-then-levels-eq0
 returns-then-levels-eq0 g t c =
-    c.page_number.ensures (forest_of (kernel_of (g.T.Store.memory c.args.store.now))).keys
-    ∙ sym (pages_leaf (forest_of (kernel_of (g.T.Store.memory c.args.store.now))).keys c.args.key c.args.levels c.if-levels-eq0.true)
+    let keys = (forest_of (kernel_of (g.T.Store.memory c.args.store.now))).keys in
+    pages_leaf keys c.args.key c.args.levels c.page_number.result c.if-levels-eq0.true (c.page_number.ensures keys)
 
 pub pages_below-pages-requires : goal.pages_below-pages-requires
 pages_below-pages-requires g t c κs within =
@@ -25,7 +23,7 @@ pages_below-pages-requires g t c κs within =
           (
             c.requires.sound,
             (
-              (λ node h. below_owned (forest_of (kernel_of (g.T.Store.memory c.args.store.now))) c.requires.sound c.args.key c.loop-digit.digit node (ap named (sym c.key_below-below.ensures) ∙ h)),
+              (λ node h. below_owned (forest_of (kernel_of (g.T.Store.memory c.args.store.now))) c.requires.sound c.args.key c.key_below-below.result c.loop-digit.digit node c.key_below-below.ensures h),
               omega arith,
             ),
           ),
@@ -45,17 +43,19 @@ overflow_add-pages g t c =
     omega arith
 
 pub loop-digit-init : goal.loop-digit-init
-loop-digit-init g t c = sym (none_so_far (λ digit. pages_below (forest_of (kernel_of (g.T.Store.memory c.args.store.now))).keys (key_below (forest_of (kernel_of (g.T.Store.memory c.args.store.now))).keys c.args.key digit) (c.args.levels - 1)))
+loop-digit-init g t c =
+    let keys = (forest_of (kernel_of (g.T.Store.memory c.args.store.now))).keys in
+    none_so_far (λ digit. pages_below keys (key_below keys c.args.key digit) (c.args.levels - 1))
 
 pub loop-digit-preserved : goal.loop-digit-preserved
 loop-digit-preserved g t c =
-    one_more_part (λ digit. pages_below (forest_of (kernel_of (g.T.Store.memory c.args.store.now))).keys (key_below (forest_of (kernel_of (g.T.Store.memory c.args.store.now))).keys c.args.key digit) (c.args.levels - 1)) c.loop-digit.digit c.loop-digit.pages c.pages_below-pages.result c.loop-digit.invariant
-    (c.pages_below-pages.ensures ∙ ap (λ key. pages_below (forest_of (kernel_of (g.T.Store.memory c.args.store.now))).keys key (c.args.levels - 1)) c.key_below-below.ensures)
+    let keys = (forest_of (kernel_of (g.T.Store.memory c.args.store.now))).keys in
+    one_more_part (λ digit. pages_below keys (key_below keys c.args.key digit) (c.args.levels - 1)) c.loop-digit.digit c.loop-digit.pages c.pages_below-pages.result c.loop-digit.invariant
+    (pages_told keys c.key_below-below.result (key_below keys c.args.key c.loop-digit.digit) (c.args.levels - 1) c.pages_below-pages.result c.key_below-below.ensures c.pages_below-pages.ensures)
 
 pub returns : goal.returns
 returns g t c =
     let some = c.if-levels-eq0.false in
     let less = c.loop-digit-test.false in
     let end : c.loop-digit.digit ≡ 16 = omega arith in
-    c.loop-digit.invariant ∙ ap (sum_below (λ digit. pages_below (forest_of (kernel_of (g.T.Store.memory c.args.store.now))).keys (key_below (forest_of (kernel_of (g.T.Store.memory c.args.store.now))).keys c.args.key digit) (c.args.levels - 1))) end
-    ∙ sym (pages_split (forest_of (kernel_of (g.T.Store.memory c.args.store.now))).keys c.args.key c.args.levels c.if-levels-eq0.false)
+    pages_parts (forest_of (kernel_of (g.T.Store.memory c.args.store.now))).keys c.args.key c.args.levels c.loop-digit.digit c.loop-digit.pages c.if-levels-eq0.false end c.loop-digit.invariant

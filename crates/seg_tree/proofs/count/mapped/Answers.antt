@@ -1,13 +1,10 @@
-use Rattle.std.proofs.Common.{◌≡◌, ap, sym, ◌∙◌, arith}
+use Rattle.std.proofs.Common.{◌≡◌, arith}
 use Rattle.kernel_tables.specs.Kernel.{kernel_of}
-use Rattle.unix_model.specs.Tables.{at, sum_below}
-use Rattle.forest.specs.Objects.{NodeObject, named}
+use Rattle.unix_model.specs.Tables.{at}
 use Rattle.forest.specs.Walks.{place_of}
 use Rattle.forest.specs.Mapped.{pages_below}
-use Rattle.forest.proofs.MappedLaws.{mapped_is_sum}
-use Rattle.forest.proofs.OwnLaws.{owned_object}
 use Rattle.kernel_forest.specs.Trees.{forest_of}
-use Rattle.seg_tree.proofs.Counting.{below_few, sum_few, none_so_far, one_more_part}
+use Rattle.seg_tree.proofs.Counting.{below_few, sum_few, none_so_far, one_more_part, pages_told, mapped_parts, place_owned}
 use Rattle.seg_tree.proofs.count.mapped.Goals as goal
 
 pub tree_key-requires-clause-owned : goal.tree_key-requires-clause-owned
@@ -18,7 +15,7 @@ pages_below-pages-requires-clause-sound g c = c.requires.trees.1.held.sound
 
 pub pages_below-pages-requires-clause-owned : goal.pages_below-pages-requires-clause-owned
 pages_below-pages-requires-clause-owned g c node h =
-    owned_object (forest_of (kernel_of (g.T.Store.memory c.args.store.now))) c.requires.trees.1.held.sound (place_of c.args.space.0.0 c.loop-digit.digit) (NodeObject node) (ap named (sym c.tree_key.ensures) ∙ h)
+    place_owned (forest_of (kernel_of (g.T.Store.memory c.args.store.now))) c.requires.trees.1.held.sound c.tree_key.result (place_of c.args.space.0.0 c.loop-digit.digit) node c.tree_key.ensures h
 
 pub overflow_add-pages : goal.overflow_add-pages
 overflow_add-pages g c =
@@ -31,15 +28,18 @@ overflow_add-pages g c =
     omega arith
 
 pub loop-digit-init : goal.loop-digit-init
-loop-digit-init g c = sym (none_so_far (λ digit. pages_below (forest_of (kernel_of (g.T.Store.memory c.args.store.now))).keys (at (forest_of (kernel_of (g.T.Store.memory c.args.store.now))).keys (place_of c.args.space.0.0 digit)) 4))
+loop-digit-init g c =
+    let keys = (forest_of (kernel_of (g.T.Store.memory c.args.store.now))).keys in
+    none_so_far (λ digit. pages_below keys (at keys (place_of c.args.space.0.0 digit)) 4)
 
 pub loop-digit-preserved : goal.loop-digit-preserved
 loop-digit-preserved g c =
-    one_more_part (λ digit. pages_below (forest_of (kernel_of (g.T.Store.memory c.args.store.now))).keys (at (forest_of (kernel_of (g.T.Store.memory c.args.store.now))).keys (place_of c.args.space.0.0 digit)) 4) c.loop-digit.digit c.loop-digit.pages c.pages_below-pages.result c.loop-digit.invariant
-    (c.pages_below-pages.ensures ∙ ap (λ key. pages_below (forest_of (kernel_of (g.T.Store.memory c.args.store.now))).keys key 4) c.tree_key.ensures)
+    let keys = (forest_of (kernel_of (g.T.Store.memory c.args.store.now))).keys in
+    one_more_part (λ digit. pages_below keys (at keys (place_of c.args.space.0.0 digit)) 4) c.loop-digit.digit c.loop-digit.pages c.pages_below-pages.result c.loop-digit.invariant
+    (pages_told keys c.tree_key.result (at keys (place_of c.args.space.0.0 c.loop-digit.digit)) 4 c.pages_below-pages.result c.tree_key.ensures c.pages_below-pages.ensures)
 
 pub returns : goal.returns
 returns g c =
     let less = c.loop-digit-test.false in
     let end : c.loop-digit.digit ≡ 8 = omega arith in
-    c.loop-digit.invariant ∙ ap (sum_below (λ digit. pages_below (forest_of (kernel_of (g.T.Store.memory c.args.store.now))).keys (at (forest_of (kernel_of (g.T.Store.memory c.args.store.now))).keys (place_of c.args.space.0.0 digit)) 4)) end ∙ sym (mapped_is_sum (forest_of (kernel_of (g.T.Store.memory c.args.store.now))).keys c.args.space.0.0)
+    mapped_parts (forest_of (kernel_of (g.T.Store.memory c.args.store.now))).keys c.args.space.0.0 c.loop-digit.digit c.loop-digit.pages end c.loop-digit.invariant

@@ -1,12 +1,12 @@
-use Rattle.std.proofs.Common.{ℕ, Option, is_some, ap, sym, ◌∙◌, ◌*◌, ◌%◌, [], arith, rules}
+use Rattle.std.proofs.Common.{◌*◌, ◌%◌, [], arith, rules}
 use Rattle.kernel_tables.specs.Kernel.{kernel_of}
 use Rattle.forest.specs.Objects.{NodeObject}
-use Rattle.forest.specs.Walks.{digits, Mapping}
+use Rattle.forest.specs.Walks.{digits}
 use Rattle.forest.proofs.CopyLaws.{end_owned}
 use Rattle.kernel_forest.specs.Trees.{forest_of}
 use Rattle.kernel_forest.proofs.Moves.{node_below}
 use Rattle.seg_tree.proofs.BlockCounts.{none_at_most, more_at_most}
-use Rattle.seg_tree.proofs.Cutting.{prunes_none, prunes_one, prunes_trans, root_filled, here_filled, tree_nulls, end_above, level_stands, level_once, next_own, next_ends, next_ways, next_mapped_ways, level_filled}
+use Rattle.seg_tree.proofs.Cutting.{prunes_none, prunes_one, prunes_trans, mapped_before, root_filled, here_filled, tree_nulls, end_above, level_stands, level_once, next_own, next_ends, next_ways, next_mapped_ways, level_filled}
 use Rattle.seg_tree.proofs.pruning.+prune.Goals as goal
 
 pub returns-then-levels-eq0-clause-pruned : goal.returns-then-levels-eq0-clause-pruned
@@ -78,15 +78,18 @@ pub returns-then-is_empty-clause-mapped_ways : goal.returns-then-is_empty-clause
 returns-then-is_empty-clause-mapped_ways g t c page mapped own =
     let some = c.if-levels-eq0.false in
     let one = prunes_one (kernel_of (g.T.Store.memory c.args.store.now)) c.node_on_way-above.result.0 (c.args.number % 16) c.node_on_way-node.result c.requires.trees.0 c.requires.trees.1 c.requires.good (omega arith) (level_stands (kernel_of (g.T.Store.memory c.args.store.now)) c.args.space.0 c.args.levels c.args.number c.if-levels-eq0.false c.requires.trees.0 c.requires.trees.1 c.requires.space c.requires.own c.node_on_way-node.result.0 c.node_on_way-node.ensures c.node_on_way-above.result.0 c.node_on_way-above.ensures) (level_once (kernel_of (g.T.Store.memory c.args.store.now)) c.args.space.0 c.args.levels c.args.number c.if-levels-eq0.false c.requires.trees.0 c.requires.trees.1 c.requires.space c.requires.own c.node_on_way-node.result.0 c.node_on_way-node.ensures c.node_on_way-above.result.0 c.node_on_way-above.ensures) (tree_nulls (kernel_of (g.T.Store.memory c.args.store.now)) c.node_on_way-node.result.0 (end_owned (forest_of (kernel_of (g.T.Store.memory c.args.store.now))) [] c.requires.trees.1.held.sound c.args.space.0 c.requires.space (digits c.args.levels c.args.number) (NodeObject c.node_on_way-node.result.0) c.node_on_way-node.ensures) (c.is_empty.ensures.empty c.if-is_empty.true)) (kernel_of (g.T.Store.memory c.take_off.new.store)) c.take_off.ensures.off in
-    let kept = one.spaces c.args.space.0 c.requires.space in
-    let same = (c.prune.ensures.pruned.spaces c.args.space.0 kept.0).1 ∙ kept.1 in
-    c.prune.ensures.mapped_ways page mapped (next_mapped_ways (kernel_of (g.T.Store.memory c.args.store.now)) c.args.space.0 c.args.levels c.args.number c.if-levels-eq0.false c.requires.trees.0 c.requires.trees.1 c.requires.space c.requires.own c.node_on_way-node.result.0 c.node_on_way-node.ensures c.node_on_way-above.result.0 c.node_on_way-above.ensures (kernel_of (g.T.Store.memory c.take_off.new.store)) c.take_off.ensures.off (tree_nulls (kernel_of (g.T.Store.memory c.args.store.now)) c.node_on_way-node.result.0 (end_owned (forest_of (kernel_of (g.T.Store.memory c.args.store.now))) [] c.requires.trees.1.held.sound c.args.space.0 c.requires.space (digits c.args.levels c.args.number) (NodeObject c.node_on_way-node.result.0) c.node_on_way-node.ensures) (c.is_empty.ensures.empty c.if-is_empty.true)) page (ap (λ (map : ℕ → Option Mapping). is_some (map page)) (sym same) ∙ mapped) own)
+    let old = kernel_of (g.T.Store.memory c.args.store.now) in
+    let mid = kernel_of (g.T.Store.memory c.take_off.new.store) in
+    let new = kernel_of (g.T.Store.memory c.prune.new.store) in
+    c.prune.ensures.mapped_ways page mapped (next_mapped_ways (kernel_of (g.T.Store.memory c.args.store.now)) c.args.space.0 c.args.levels c.args.number c.if-levels-eq0.false c.requires.trees.0 c.requires.trees.1 c.requires.space c.requires.own c.node_on_way-node.result.0 c.node_on_way-node.ensures c.node_on_way-above.result.0 c.node_on_way-above.ensures (kernel_of (g.T.Store.memory c.take_off.new.store)) c.take_off.ensures.off (tree_nulls (kernel_of (g.T.Store.memory c.args.store.now)) c.node_on_way-node.result.0 (end_owned (forest_of (kernel_of (g.T.Store.memory c.args.store.now))) [] c.requires.trees.1.held.sound c.args.space.0 c.requires.space (digits c.args.levels c.args.number) (NodeObject c.node_on_way-node.result.0) c.node_on_way-node.ensures) (c.is_empty.ensures.empty c.if-is_empty.true)) page (mapped_before old new c.args.space.0 page (prunes_trans old mid new one c.prune.ensures.pruned) c.requires.space mapped) own)
 
 pub returns-then-is_empty-clause-filled : goal.returns-then-is_empty-clause-filled
 returns-then-is_empty-clause-filled g t c = level_filled (kernel_of (g.T.Store.memory c.args.store.now)) c.args.space.0 c.args.levels c.args.number c.if-levels-eq0.false c.requires.trees.0 c.requires.trees.1 c.requires.space c.requires.own c.node_on_way-node.result.0 c.node_on_way-node.ensures c.node_on_way-above.result.0 c.node_on_way-above.ensures (kernel_of (g.T.Store.memory c.take_off.new.store)) c.take_off.ensures.off (kernel_of (g.T.Store.memory c.prune.new.store)) c.prune.ensures.filled
 
 pub returns-then-is_empty-clause-blocks : goal.returns-then-is_empty-clause-blocks
-returns-then-is_empty-clause-blocks g t c = let some = c.if-levels-eq0.false in more_at_most (4 * c.args.levels) (omega arith) c.take_off.ensures.blocks c.prune.ensures.blocks
+returns-then-is_empty-clause-blocks g t c =
+    let some = c.if-levels-eq0.false in
+    more_at_most {new = g.T.Store.blocks c.prune.new.store} (4 * c.args.levels) (omega arith) c.take_off.ensures.blocks c.prune.ensures.blocks
 
 pub returns-else-is_empty-clause-pruned : goal.returns-else-is_empty-clause-pruned
 returns-else-is_empty-clause-pruned g t c = prunes_none (kernel_of (g.T.Store.memory c.args.store.now))

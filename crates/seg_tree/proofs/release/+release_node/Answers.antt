@@ -1,10 +1,11 @@
-use Rattle.std.proofs.Common.{sym, ◌∙◌, arith}
+use Rattle.std.proofs.Common.{arith}
 use Rattle.kernel_tables.specs.Kernel.{kernel_of}
 use Rattle.kn_base.specs.declared.key.Key.TheVariants.{Segment}
 use Rattle.std.specs.Prelude.{[], ◌∷◌}
 use Rattle.kernel_forest.proofs.Moves.{node_below, node_shares}
 use Rattle.kernel_forest.proofs.GivingNodes.{hand_owned, hand_alive, lets_node_lowered, lets_node_given, give_within, give_once, give_unnamed}
 use Rattle.seg_tree.proofs.Emptying.{hand_after, empties_none, empties_more, out_and_released, lets_trans}
+use Rattle.seg_tree.proofs.Owning.{once_told, not_once_told}
 use Rattle.seg_tree.proofs.release.+release_node.Goals as goal
 use Rattle.seg_tree.proofs.release.+release_node.Goals.{in-Some, in-None}
 
@@ -29,14 +30,14 @@ pub returns-then-node_count-ne1-clause-released : goal.returns-then-node_count-n
 returns-then-node_count-ne1-clause-released g t c =
     let k = kernel_of (g.T.Store.memory c.args.store.now) in
     lets_node_lowered k (kernel_of (g.T.Store.memory c.lower_key.new.store)) c.args.node c.args.height c.requires.hand
-    (λ e. c.if-node_count-ne1.true (c.node_count.ensures ∙ sym (node_shares k c.args.node.0 (hand_owned k c.args.node c.args.height c.requires.hand)) ∙ e))
+    (not_once_told k c.args.node.0 c.node_count.result (hand_owned k c.args.node c.args.height c.requires.hand) c.node_count.ensures c.if-node_count-ne1.true)
     (c.lower_key.ensures.lowered c.args.height)
 
 pub loop-digit-init : goal.loop-digit-init
 loop-digit-init g t c =
     let k = kernel_of (g.T.Store.memory c.args.store.now) in
     record {
-      empties = empties_none k c.args.node c.args.height c.requires.fits (node_shares k c.args.node.0 (hand_owned k c.args.node c.args.height c.requires.hand) ∙ sym c.node_count.ensures ∙ c.if-node_count-ne1.false);
+      empties = empties_none k c.args.node c.args.height c.requires.fits (once_told k c.args.node.0 c.node_count.result (hand_owned k c.args.node c.args.height c.requires.hand) c.node_count.ensures c.if-node_count-ne1.false);
       good = c.requires.good;
       kept = g.met.T.Store.keeps_same c.args.store.now;
     }

@@ -1,11 +1,10 @@
-use Rattle.std.proofs.Common.{is_some, sym, ◌≡◌, Some, None, refl, ap, ◌∙◌}
+use Rattle.std.proofs.Common.{◌≡◌, Some, None, refl, ap}
 use Rattle.kn_base.specs.declared.key.Key.TheVariants.{Page}
 use Rattle.forest.specs.Objects.{named}
 use Rattle.kernel_tables.specs.Kernel.{kernel_of}
-use Rattle.kernel_forest.proofs.ApartLaws.{inside_same}
 use Rattle.kernel_forest.proofs.Giving.{lets_nothing}
 use Rattle.seg_tree.proofs.Children.{fits_tree}
-use Rattle.seg_tree.proofs.Mapping.{trees_nothing, leaf_null}
+use Rattle.seg_tree.proofs.Mapping.{trees_nothing, was_null, put_inside}
 use Rattle.seg_tree.proofs.spaces.map_zero.Goals as goal
 
 pub put_leaf-requires-clause-trees : goal.put_leaf-requires-clause-trees
@@ -20,7 +19,7 @@ returns-clause-mapped g c =
     let old = kernel_of (g.T.Store.memory c.args.store.now) in
     let new = kernel_of (g.T.Store.memory c.put_leaf.new.store) in
     let put = c.put_leaf.ensures.put in
-    let null = leaf_null c.put_leaf.result put.leaf (put.mapping ∙ c.requires.unmapped) in
+    let null = was_null old new c.args.space.0.0 c.args.page (Page (record { 0 = 0 }) c.args.writable) c.put_leaf.result put c.requires.unmapped in
     record {
       changes = λ outside trees.
           put.after outside (trees_nothing old outside (Page (record { 0 = 0 }) c.args.writable) refl tt trees) new
@@ -31,7 +30,7 @@ returns-clause-mapped g c =
       rows_now = put.rows_now;
       apart_now = put.apart_now;
       owners_now = put.owners_now;
-      inside = λ outside. inside_same old new outside (put.outside_now outside) (λ number some. ap is_some (sym (put.pages_now number)) ∙ some);
+      inside = put_inside old new c.args.space.0.0 c.args.page (Page (record { 0 = 0 }) c.args.writable) c.put_leaf.result put;
       rest = put.rest;
       most = put.most;
     }

@@ -1,10 +1,11 @@
-use Rattle.std.proofs.Common.{◌≡◌, ℕ, Some, None, false, ap, sym, subst, ◌∙◌, arith}
+use Rattle.std.proofs.Common.{ℕ, Some, false, sym, subst, arith}
 use Rattle.unix_model.specs.Tables.{with_at}
 use Rattle.forest.specs.Walks.{map_of}
-use Rattle.kernel_tables.specs.Kernel.{Kernel, kernel_of}
+use Rattle.kernel_tables.specs.Kernel.{kernel_of}
 use Rattle.kernel_forest.specs.Trees.{forest_of}
 use Rattle.seg_tree.specs.Promises.{Remaps}
-use Rattle.seg_tree.proofs.Replacing.{page_or_zero, may_protect, raised_trees, raised_space, raised_owners, raised_way, protected_owned, protected_many, protected}
+use Rattle.kernel_forest.proofs.Rest.{rest-nodes}
+use Rattle.seg_tree.proofs.Replacing.{page_is, none_is, may_protect, raised_trees, raised_space, raised_owners, raised_way, protected_owned, protected_many, protected}
 use Rattle.seg_tree.proofs.BlockCounts.{none_at_most, more_at_most}
 use Rattle.seg_tree.proofs.spaces.protect.Goals as goal
 
@@ -33,7 +34,7 @@ put_leaf-requires-clause-owners g c =
 pub put_leaf-requires-clause-room : goal.put_leaf-requires-clause-room
 put_leaf-requires-clause-room g c =
     let number = c.raise_key.ensures.raised.steps.number in
-    let nodes = ap (λ (k : Kernel). k.nodes) c.raise_key.ensures.raised.steps.rest in
+    let nodes = rest-nodes (kernel_of (g.T.Store.memory c.args.store.now)) (kernel_of (g.T.Store.memory c.raise_key.new.store)) c.raise_key.ensures.raised.steps.rest in
     let room = c.requires.room in
     omega arith
 
@@ -47,13 +48,13 @@ pub returns-in-Some-clause-protected : goal.returns-in-Some-clause-protected
 returns-in-Some-clause-protected g c found is =
     let old = kernel_of (g.T.Store.memory c.args.store.now) in
     let new = kernel_of (g.T.Store.memory c.lower_leaf.new.store) in
-    let same : Some (record { writable = c.in-Some.found.writable; page = c.in-Some.found.page.0 }) ≡ Some found = c.in-Some.ensures.found ∙ is in
-    let pages : c.in-Some.found.page.0 ≡ found.page = ap page_or_zero same in
+    let pages = page_is (map_of (forest_of old).keys c.args.space.0.0 c.args.page) c.in-Some.found.writable c.in-Some.found.page.0 found c.in-Some.ensures.found is in
     subst (λ (number : ℕ). Remaps old new c.args.space.0.0 4 (with_at (map_of (forest_of old).keys c.args.space.0.0) c.args.page (Some (record { writable = false; page = number })))) pages
     (protected (kernel_of (g.T.Store.memory c.args.store.now)) c.args.space.0.0 c.args.page c.in-Some.found.writable c.in-Some.found.page c.requires.good c.requires.page (sym c.in-Some.ensures.found) (kernel_of (g.T.Store.memory c.raise_key.new.store)) c.raise_key.ensures.raised (kernel_of (g.T.Store.memory c.put_leaf.new.store)) c.put_leaf.result c.put_leaf.ensures.put c.requires.trees.0 c.requires.trees.1 new (c.lower_leaf.ensures.lowered c.in-Some.found.writable))
 
 pub returns-in-None-clause-protected : goal.returns-in-None-clause-protected
-returns-in-None-clause-protected g c found is = let no : None ≡ Some found = c.in-None.ensures.found ∙ is in cc
+returns-in-None-clause-protected g c found is =
+    absurd (none_is (map_of (forest_of (kernel_of (g.T.Store.memory c.args.store.now))).keys c.args.space.0.0 c.args.page) found c.in-None.ensures.found is)
 
 pub returns-in-Some-clause-no_node : goal.returns-in-Some-clause-no_node
 returns-in-Some-clause-no_node g c own =

@@ -1,8 +1,8 @@
 use Rattle.std.proofs.Common.{arith, ◌≡◌, Some, sym, subst, ◌∙◌}
 use Rattle.kernel_tables.specs.Kernel.{kernel_of}
-use Rattle.kernel_forest.specs.Trees.{IsTreeKey, forest_of}
+use Rattle.kernel_forest.specs.Trees.{forest_of}
 use Rattle.seg_tree.specs.Steps.{MayOwn}
-use Rattle.seg_tree.proofs.Owning.{may_copy_child, node_still_owned, still_stands, child_still_owned, still_two, fresh_copied}
+use Rattle.seg_tree.proofs.Owning.{may_copy_child, node_still_owned, still_tree, child_still_owned, still_two, fresh_copied}
 use Rattle.seg_tree.proofs.BlockCounts.{at_most, more_at_most}
 use Rattle.seg_tree.proofs.steps.copy_child.Goals as goal
 
@@ -29,8 +29,8 @@ put_key-requires-clause-was_of_tree g c =
     let k1 = kernel_of (g.T.Store.memory c.take_tree_node-fresh.new.store) in
     let k2 = kernel_of (g.T.Store.memory c.copy_keys.new.store) in
     let may = c.requires.may in
-    subst IsTreeKey (sym (still_stands k0 k1 k2 k2 k2 c.args.node.0 c.args.digit c.args.height c.args.child c.take_tree_node-fresh.result may.0 may.2 c.requires.stands c.requires.shared
-    (c.take_tree_node-fresh.ensures.taken may.0 may.1) c.copy_keys.ensures.copied)) tt
+    still_tree k0 k1 k2 k2 k2 c.args.node.0 c.args.digit c.args.height c.args.child c.take_tree_node-fresh.result may.0 may.2 c.requires.stands c.requires.shared
+    (c.take_tree_node-fresh.ensures.taken may.0 may.1) c.copy_keys.ensures.copied
 
 pub lower_key-requires-clause-owned : goal.lower_key-requires-clause-owned
 lower_key-requires-clause-owned g c =

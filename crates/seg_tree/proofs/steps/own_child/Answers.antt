@@ -1,13 +1,9 @@
-use Rattle.std.proofs.Common.{◌≡◌, ap, sym, ◌∙◌, arith, refl}
+use Rattle.std.proofs.Common.{arith}
 use Rattle.kernel_tables.specs.Kernel.{kernel_of}
-use Rattle.unix_model.specs.Tables.{at}
-use Rattle.forest.specs.Objects.{NodeObject, named}
-use Rattle.forest.specs.Walks.{place_of}
-use Rattle.forest.proofs.CopyLaws.{counted_once}
+use Rattle.forest.specs.Objects.{NodeObject}
 use Rattle.kernel_forest.specs.Trees.{forest_of}
-use Rattle.seg_tree.specs.Steps.{segment_of, kept_child}
 use Rattle.kernel_forest.proofs.Moves.{node_shares}
-use Rattle.seg_tree.proofs.Owning.{segment_some, named_owned}
+use Rattle.seg_tree.proofs.Owning.{child_stands, named_owned, own_already}
 use Rattle.seg_tree.proofs.BlockCounts.{none_at_most}
 use Rattle.seg_tree.proofs.steps.own_child.Goals as goal
 
@@ -15,8 +11,7 @@ pub copy_child-requires-clause-shared : goal.copy_child-requires-clause-shared
 copy_child-requires-clause-shared g c =
     let k0 = kernel_of (g.T.Store.memory c.args.store.now) in
     let may = c.requires.may in
-    let stands = segment_some c.args.height (at (forest_of k0).keys (place_of c.args.node.0 c.args.digit)) c.in-Some.child may.2.fits
-    (ap segment_of (sym c.tree_key.ensures) ∙ sym c.segment_of.ensures ∙ c.in-Some.is) in
+    let stands = child_stands (forest_of k0) c.args.node.0 c.args.digit c.args.height may.0 c.tree_key.result c.segment_of.result c.in-Some.child may.2 c.tree_key.ensures c.segment_of.ensures c.in-Some.is in
     let owned = named_owned (forest_of k0) c.args.node.0 c.args.digit c.args.height may.0 c.in-Some.child may.2 stands in
     let alive = may.2.alive (NodeObject c.in-Some.child.0) owned in
     let same = node_shares k0 c.in-Some.child.0 owned in
@@ -28,10 +23,8 @@ pub returns-then-node_count-eq1-clause-own : goal.returns-then-node_count-eq1-cl
 returns-then-node_count-eq1-clause-own g c to tree =
     let k0 = kernel_of (g.T.Store.memory c.args.store.now) in
     let may = c.requires.may in
-    let stands = segment_some c.args.height (at (forest_of k0).keys (place_of c.args.node.0 c.args.digit)) c.in-Some.child may.2.fits
-    (ap segment_of (sym c.tree_key.ensures) ∙ sym c.segment_of.ensures ∙ c.in-Some.is) in
-    let one : (forest_of k0).count (NodeObject c.in-Some.child.0) ≡ 1 = node_shares k0 c.in-Some.child.0 (named_owned (forest_of k0) c.args.node.0 c.args.digit c.args.height may.0 c.in-Some.child may.2 stands) ∙ sym c.node_count.ensures ∙ c.if-node_count-eq1.true in
-    kept_child (counted_once (forest_of k0) (at (forest_of k0).keys (place_of c.args.node.0 c.args.digit)) (NodeObject c.in-Some.child.0) (ap named stands) one) (ap named stands) refl
+    let stands = child_stands (forest_of k0) c.args.node.0 c.args.digit c.args.height may.0 c.tree_key.result c.segment_of.result c.in-Some.child may.2 c.tree_key.ensures c.segment_of.ensures c.in-Some.is in
+    own_already k0 c.args.node.0 c.args.digit c.args.height c.node_count.result may.0 to c.in-Some.child may.2 stands c.node_count.ensures c.if-node_count-eq1.true
 
 pub returns-then-node_count-eq1-clause-blocks : goal.returns-then-node_count-eq1-clause-blocks
 returns-then-node_count-eq1-clause-blocks g c = none_at_most 21
