@@ -40,10 +40,13 @@ start_refused old root byte state refused is = ap (λ s. starts_in s (lives old)
 
 -- ---- a Resume key
 
-pub awaited : (state : State) (own count : ℕ) → awaits state own count ≡ true → (state ≡ Waiting) × (own ≡ count)
-awaited Available own count h = cc
-awaited Running own count h = cc
-awaited Waiting own count h = (refl, eqb-true own count h)
+awaited_is : (state : State) (own count : ℕ) → awaits state own count ≡ true → (state ≡ Waiting) × (own ≡ count)
+awaited_is Available own count h = cc
+awaited_is Running own count h = cc
+awaited_is Waiting own count h = (refl, eqb-true own count h)
+
+pub awaited : (state : State) (own count : ℕ) (result : Bool) → result ≡ awaits state own count → result ≡ true → (state ≡ Waiting) × (own ≡ count)
+awaited state own count result told is = awaited_is state own count (sym told ∙ is)
 
 pub resume_goes : (old new : Kernel) (root : NodeId) (count : ℕ) → (at (lives old) root.0).state ≡ Waiting → (at (lives old) root.0).count ≡ count
     → Invokes old new (with_at (lives old) root.0 (record { state = Running; count = (count + 1) % 2 ^ 64 })) (leaving old root.0 (at (lives old) root.0).count)
@@ -62,10 +65,10 @@ void_in Available lives root count h = refl
 void_in Running lives root count h = refl
 void_in Waiting lives root count h = rw h refl
 
-pub resume_refused : (old : Kernel) (root : NodeId) (count : ℕ) → awaits (at (lives old) root.0).state (at (lives old) root.0).count count ≡ false
+pub resume_refused : (old : Kernel) (root : NodeId) (count : ℕ) (result : Bool) → result ≡ awaits (at (lives old) root.0).state (at (lives old) root.0).count count → result ≡ false
     → step (lives old) (Forks (Resume root count)) ≡ Err VoidKey
 unfolding step
-resume_refused old root count h = void_in (at (lives old) root.0).state (lives old) root.0 count h
+resume_refused old root count result told is = void_in (at (lives old) root.0).state (lives old) root.0 count (sym told ∙ is)
 
 -- ---- a place of the room is emptied
 

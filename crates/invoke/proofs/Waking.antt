@@ -1,5 +1,5 @@
 -- Whoever is parked goes on, one slot after the other.
-use Rattle.std.proofs.Common.{◌≡◌, ◌<◌, ◌≤◌, ◌+◌, ℕ, true, false, nat_lt, if◌then◌else◌, Option, Some, None, List, [], ◌∷◌, ◌++◌, refl, ap, sym, subst, ◌∙◌, add-one, arith, ⊎_elim}
+use Rattle.std.proofs.Common.{◌≡◌, ◌<◌, ◌≤◌, ◌+◌, ◌==◌, ◌&&◌, ℕ, Bool, true, false, nat_lt, get_or, if◌then◌else◌, Option, Some, None, List, [], ◌∷◌, ◌++◌, refl, ap, sym, subst, ◌∙◌, add-one, arith, ⊎_elim}
 use Rattle.std.proofs.Math.Path.{fun_ext}
 use Rattle.std.proofs.lemmas.Bool.{cases_Bool, cases_lt, lt-ltb, le-ltb}
 use Rattle.kn_base.specs.declared.key.Key.{Key}
@@ -8,6 +8,7 @@ use Rattle.kernel_tables.specs.Rows.{domain_rows, fixed_rows}
 use Rattle.kernel_tables.specs.Blocks.{IsAmong, ChangesBlocks, key_block}
 use Rattle.kernel_tables.proofs.BlockLaws.{both_change}
 use Rattle.unix_model.specs.Tables.{at, with_at}
+use Rattle.unix_model.proofs.TableLaws.{with_at-same}
 use Rattle.domain.specs.Domains.{Domain, no_domain, domains, domain_at, roots, roots_by}
 use Rattle.domain.specs.Marks.{is_marked, is_parked_on, unparked, released, woken, all_woken}
 use Rattle.domain.specs.Sets.{WritesNumbers}
@@ -35,6 +36,25 @@ released_yes domain e = rw e refl
 pub released_no : (domain : Domain) → is_marked domain ≡ false → released domain ≡ domain
 unfolding released
 released_no domain e = rw e refl
+
+-- the words of a mark that was read tell whether it is taken away
+module _ (old : ℕ → Domain) (root : ℕ) (marks : List ℕ) (result : Bool) (read : marks ≡ (at old root).marks) where
+  pub released_set : (now : ℕ → Domain) → result ≡ (get_or marks 0 0 == 1) → result ≡ true → now ≡ with_at old root (unparked (at old root)) → now ≡ with_at old root (released (at old root))
+  released_set now told is set =
+      set ∙ ap (with_at old root) (sym (released_yes (at old root) (ap (λ (m : List ℕ). get_or m 0 0 == 1) (sym read) ∙ sym told ∙ is)))
+
+  pub released_left : result ≡ (get_or marks 0 0 == 1) → result ≡ false → old ≡ with_at old root (released (at old root))
+  released_left told is =
+      sym (with_at-same old root (released (at old root)) (sym (released_no (at old root) (ap (λ (m : List ℕ). get_or m 0 0 == 1) (sym read) ∙ sym told ∙ is))))
+
+  pub woken_set : (word : ℕ) (now : ℕ → Domain) → result ≡ ((get_or marks 0 0 == 1) && (get_or marks 1 0 == word)) → result ≡ true → now ≡ with_at old root (unparked (at old root))
+      → now ≡ with_at old root (woken word (at old root))
+  woken_set word now told is set =
+      set ∙ ap (with_at old root) (sym (woken_yes word (at old root) (ap (λ (m : List ℕ). (get_or m 0 0 == 1) && (get_or m 1 0 == word)) (sym read) ∙ sym told ∙ is)))
+
+  pub woken_left : (word : ℕ) → result ≡ ((get_or marks 0 0 == 1) && (get_or marks 1 0 == word)) → result ≡ false → old ≡ with_at old root (woken word (at old root))
+  woken_left word told is =
+      sym (with_at-same old root (woken word (at old root)) (sym (woken_no word (at old root) (ap (λ (m : List ℕ). (get_or m 0 0 == 1) && (get_or m 1 0 == word)) (sym read) ∙ sym told ∙ is))))
 
 -- what is no domain isn't parked
 pub woken_dead : (word : ℕ) (rows : ℕ → ℕ → Key) (root : ℕ) → (at (domain_at rows) root).live ≡ false → woken word (at (domain_at rows) root) ≡ at (domain_at rows) root
