@@ -62,6 +62,11 @@ piece_here memory whole size place n inside within =
     ∙ ap (λ i. get_or (tree_page memory i) ((place + k) % 4096) d) number
     ∙ ap (λ i. get_or (tree_page memory (place / 4096)) i d) in_page))
 
+-- .. so a piece that was read of a page is one of the file
+pub piece_read : (memory : Memory) → WholeTree memory → (piece : List ℕ) (size place n : ℕ) → piece ≡ part_at (tree_page memory (place / 4096)) (place % 4096) n → place % 4096 + n ≤ 4096 → place + n ≤ size
+    → piece ≡ part_at (file_in memory size) place n
+piece_read memory whole piece size place n read inside within = read ∙ piece_here memory whole size place n inside within
+
 -- a part behind a part
 pub part_more : (xs : List ℕ) (place n m : ℕ) → part_at xs place (n + m) ≡ part_at xs place n ++ part_at xs (place + n) m
 part_more xs place n m = take-add n m (drop place xs) ∙ ap (λ rest. take n (drop place xs) ++ take m rest) (drop-drop n place xs)

@@ -7,7 +7,7 @@ use Rattle.kernel_tables.specs.Kernel.{kernel_of}
 use Rattle.kernel_tables.proofs.Sizes.{length-memory_page}
 use Rattle.kernel_machine.specs.Contents.{file_in}
 use Rattle.file_trees.specs.Trees.{tree_memory}
-use Rattle.file_trees.proofs.Contents.{piece_here, piece_put}
+use Rattle.file_trees.proofs.Contents.{piece_put, piece_read}
 use Rattle.file_trees.proofs.Pages.{tree_whole}
 use Rattle.file_trees.proofs.reading.read_tree.Goals as goal
 
@@ -27,12 +27,11 @@ loop-done-preserved g c =
           piece_put (file_in (tree_memory kernel c.args.root) size) c.loop-done.into c.read_piece.new.into c.args.at c.loop-done.done c.min-end.result
           (length (take (c.min-end.result - c.loop-done.done) (drop c.loop-done.done c.loop-done.into)))
           (omega arith) (omega arith) count c.read_piece.auto.into (c.loop-done.invariant.taken size far)
-          (c.read_piece.ensures
-          ∙ piece_here (tree_memory kernel c.args.root)
+          (piece_read (tree_memory kernel c.args.root)
           (tree_whole kernel c.args.root c.requires.good c.requires.trees.1.held.sound c.requires.tree
           (record { whole = λ page which. length-memory_page (g.T.Store.memory c.args.store.now) page c.requires.good.sized which (g.met.T.Store.page_length c.args.store.now) }))
-          size (c.args.at + c.loop-done.done) (length (take (c.min-end.result - c.loop-done.done) (drop c.loop-done.done c.loop-done.into)))
-          (omega arith) (omega arith));
+          c.read_piece.new.into size (c.args.at + c.loop-done.done) (length (take (c.min-end.result - c.loop-done.done) (drop c.loop-done.done c.loop-done.into)))
+          c.read_piece.ensures (omega arith) (omega arith));
     }
 
 pub returns-clause-read : goal.returns-clause-read
