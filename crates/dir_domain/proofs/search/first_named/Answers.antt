@@ -1,4 +1,4 @@
-use Rattle.std.proofs.Common.{◌≡◌, ◌+◌, ◌*◌, ◌/◌, None, arith}
+use Rattle.std.proofs.Common.{◌+◌, ◌*◌, ◌/◌, None, arith}
 use Rattle.std.specs.Prelude.{min}
 use Rattle.kernel_tables.specs.Kernel.{kernel_of, memory_page}
 use Rattle.kernel_machine.specs.Machine.{machine_of}
